@@ -1,0 +1,12 @@
+-- Every bench figure holds, because the definitions compute to its answer.
+use mathlib.Core.Path.{_≡_, refl}
+use mathlib.Core.Bool.{true}
+use Rattle.posit.specs.Reading.{run}
+use Rattle.posit.specs.Value.{multiple, units}
+use Rattle.posit.specs.Nearest.{floorUpTo, chosen, nearestAbove, nearest}
+use Rattle.posit.specs.Arithmetic.{answer}
+use Rattle.figures.specs.Figures.{figures, all}
+
+pub figures-hold : all figures ≡ true
+unfolding run multiple units floorUpTo chosen nearestAbove nearest answer
+figures-hold = refl

@@ -1,0 +1,46 @@
+-- The bench figures of document 01, n = 8 and es = 2: one list, and one claim that each case has its answer by the definitions.
+use mathlib.Core.Bool.{Bool, true, false, _&&_}
+use mathlib.Core.List.{List, [], _∷_}
+use Prim.Native.Nat.{ℕ}
+use lib.Dec.{T, eqb}
+use Rattle.posit.specs.Arithmetic.{answer}
+
+-- operation numbers
+abbrev plus : ℕ
+plus = 0
+
+abbrev times : ℕ
+times = 2
+
+abbrev over : ℕ
+over = 3
+
+-- an operation number, two posits and the posit that is the answer
+pub data Case : Type 0 where
+  posits : ℕ → ℕ → ℕ → ℕ → Case
+
+-- the bench's format
+abbrev pub width : ℕ
+width = 8
+
+abbrev pub exponentSize : ℕ
+exponentSize = 2
+
+abbrev pub figures : List Case
+figures =
+    posits plus 0x40 0x40 0x48  -- A
+    ∷ posits over 0x40 0x4c 0x33  -- B
+    ∷ posits plus 0x40 0x20 0x40  -- C, a tie
+    ∷ posits plus 0x41 0x20 0x42  -- D, a tie
+    ∷ posits times 0x7e 0x50 0x7e  -- E, 2^22, a tie
+    ∷ posits times 0x7e 0x58 0x7f  -- F, 2^23
+    ∷ posits times 0x01 0x01 0x01  -- G
+    ∷ posits over 0x40 0x00 0x80  -- H
+    ∷ []
+
+abbrev pub holds : Case → Bool
+holds (posits op p q r) = eqb (answer width exponentSize op p q) r
+
+abbrev pub all : List Case → Bool
+all [] = true
+all (c ∷ cs) = holds c && all cs
