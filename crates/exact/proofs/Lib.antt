@@ -1,0 +1,17 @@
+pub mod Parts
+pub mod Whole
+pub mod Polynomial
+pub mod Ring
+pub mod Linear
+pub mod WholeOrder
+pub mod Certificate
+pub mod FractionRing
+pub mod Order
+pub mod Common
+pub mod Sum
+pub mod Sign
+pub mod Product
+pub mod Quotient
+pub mod Powers
+pub mod OverPower
+pub mod Scaled
