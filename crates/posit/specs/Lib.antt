@@ -5,4 +5,8 @@ pub mod Rounding
 pub mod Nearest
 pub mod Arithmetic
 pub mod Refusal
+pub mod Decoding
+pub mod Comparing
+pub mod Negating
+pub mod Parts
 pub mod Locating

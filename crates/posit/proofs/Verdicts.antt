@@ -1,0 +1,152 @@
+-- The verdict of a call by its tests: each test that fails leaves the rest of the list, and the first that hits is the verdict.
+use mathlib.Core.Path.{_≡_, refl, sym, ap, _∙_, subst}
+use mathlib.Core.Bool.{Bool, true, false, not, _&&_}
+use mathlib.Core.Logic.{_≢_}
+use mathlib.Core.List.{List, [], _∷_}
+use Prim.Native.Nat.{ℕ, zero, suc, _^_, _≤_, _<_}
+use native.Mathlib.Nat.{suc-ne-zero}
+use lib.Dec.{T, leb, ltb}
+use borrow.Author.Tests.{le-leb, lt-leb, lt-ltb, le-ltb, leb-true}
+use Rattle.posit.specs.Format.{Format, isFormat}
+use Rattle.posit.specs.Refusal.{Verdict, Test, Answers, done, firstHit, left, right, formatTest, operationTest, positTest, verdictOfFormat, verdictOfOne, verdictOfTwo, verdictOfOperation}
+
+-- ---- the first hit
+pub hits : (t : Test) (ts : List Test) → t .hit ≡ true → firstHit (t ∷ ts) ≡ t .gives
+unfolding firstHit
+hits t ts e = rw e
+
+pub passes : (t : Test) (ts : List Test) → t .hit ≡ false → firstHit (t ∷ ts) ≡ firstHit ts
+unfolding firstHit
+passes t ts e = rw e
+
+pub none-hits : firstHit [] ≡ done
+unfolding firstHit
+none-hits = refl
+
+-- ---- an answer by its verdict
+pub answers-refused : {v : Verdict} {Right Refused : Type 0} {k place : ℕ} → v ≡ record { number = suc k; place = place } → Refused → Answers v (suc k) place Right Refused
+answers-refused {k = k} e f =
+    record {
+      number-is = sym (ap (λ (x : Verdict). x .number) e);
+      place-is = sym (ap (λ (x : Verdict). x .place) e);
+      right = λ h. absurd (suc-ne-zero k (sym (ap (λ (x : Verdict). x .number) e) ∙ h));
+      refused = λ h. f;
+    }
+
+pub answers-done : {v : Verdict} {Right Refused : Type 0} → v ≡ done → Right → Answers v 0 0 Right Refused
+answers-done e r =
+    record {
+      number-is = sym (ap (λ (x : Verdict). x .number) e);
+      place-is = sym (ap (λ (x : Verdict). x .place) e);
+      right = λ h. r;
+      refused = λ h. absurd (h (ap (λ (x : Verdict). x .number) e));
+    }
+
+-- ---- the format test, and a format from it
+both : (a b : Bool) → (a && b) ≡ true → (a ≡ true) × (b ≡ true)
+both true b e = (refl, e)
+both false b e = absurd (subst T (sym e) tt)
+
+pub format-of : {n es : ℕ} → isFormat n es ≡ true → Format n es
+format-of {n} {es} e =
+    let s = both (leb 3 n && leb n 16) (leb es 2) e in
+    let t = both (leb 3 n) (leb n 16) (s .0) in
+    record { wide-enough = leb-true 3 n (t .0); not-too-wide = leb-true n 16 (t .1); exponent-fits = leb-true es 2 (s .1) }
+
+format-hits : (n es : ℕ) (ts : List Test) → isFormat n es ≡ false → firstHit (formatTest n es ∷ ts) ≡ record { number = 1; place = 0 }
+format-hits n es ts e = hits (formatTest n es) ts (ap not e)
+
+format-passes : (n es : ℕ) (ts : List Test) → isFormat n es ≡ true → firstHit (formatTest n es ∷ ts) ≡ firstHit ts
+format-passes n es ts e = passes (formatTest n es) ts (ap not e)
+
+operation-hits : (op : ℕ) (ts : List Test) → 3 < op → firstHit (operationTest op ∷ ts) ≡ record { number = 2; place = 0 }
+operation-hits op ts h = hits (operationTest op) ts (lt-ltb 3 op h)
+
+operation-passes : (op : ℕ) (ts : List Test) → op ≤ 3 → firstHit (operationTest op ∷ ts) ≡ firstHit ts
+operation-passes op ts h = passes (operationTest op) ts (le-ltb 3 op h)
+
+posit-hits : (n place p : ℕ) (ts : List Test) → 2 ^ n ≤ p → firstHit (positTest n place p ∷ ts) ≡ record { number = 3; place = place }
+posit-hits n place p ts h = hits (positTest n place p) ts (le-leb (2 ^ n) p h)
+
+posit-passes : (n place p : ℕ) (ts : List Test) → p < 2 ^ n → firstHit (positTest n place p ∷ ts) ≡ firstHit ts
+posit-passes n place p ts h = passes (positTest n place p) ts (lt-leb (2 ^ n) p h)
+
+-- ---- calls that test the format alone
+module _ (n es : ℕ) where
+  pub format-outside : isFormat n es ≡ false → verdictOfFormat n es ≡ record { number = 1; place = 0 }
+  unfolding verdictOfFormat
+  format-outside e = format-hits n es [] e
+
+  pub format-done : isFormat n es ≡ true → verdictOfFormat n es ≡ done
+  unfolding verdictOfFormat
+  format-done e = format-passes n es [] e ∙ none-hits
+
+-- ---- calls on one posit
+module _ (n es p : ℕ) where
+  pub one-outside : isFormat n es ≡ false → verdictOfOne n es p ≡ record { number = 1; place = 0 }
+  unfolding verdictOfOne
+  one-outside e = format-hits n es _ e
+
+  pub one-too-large : isFormat n es ≡ true → 2 ^ n ≤ p → verdictOfOne n es p ≡ record { number = 3; place = 0 }
+  unfolding verdictOfOne
+  one-too-large e h = format-passes n es _ e ∙ posit-hits n left p [] h
+
+  pub one-done : isFormat n es ≡ true → p < 2 ^ n → verdictOfOne n es p ≡ done
+  unfolding verdictOfOne
+  one-done e h = format-passes n es _ e ∙ posit-passes n left p [] h ∙ none-hits
+
+-- ---- two posits, after the tests before them
+module _ (n p q : ℕ) where
+  abbrev operands : List Test
+  operands = positTest n left p ∷ positTest n right q ∷ []
+
+  operands-left : 2 ^ n ≤ p → firstHit operands ≡ record { number = 3; place = 0 }
+  operands-left h = posit-hits n left p _ h
+
+  operands-right : p < 2 ^ n → 2 ^ n ≤ q → firstHit operands ≡ record { number = 3; place = 1 }
+  operands-right h k = posit-passes n left p _ h ∙ posit-hits n right q [] k
+
+  operands-done : p < 2 ^ n → q < 2 ^ n → firstHit operands ≡ done
+  operands-done h k = posit-passes n left p _ h ∙ posit-passes n right q [] k ∙ none-hits
+
+-- ---- compare
+module _ (n es p q : ℕ) where
+  pub two-outside : isFormat n es ≡ false → verdictOfTwo n es p q ≡ record { number = 1; place = 0 }
+  unfolding verdictOfTwo
+  two-outside e = format-hits n es _ e
+
+  two-inside : isFormat n es ≡ true → verdictOfTwo n es p q ≡ firstHit (operands n p q)
+  unfolding verdictOfTwo
+  two-inside e = format-passes n es _ e
+
+  pub two-left : isFormat n es ≡ true → 2 ^ n ≤ p → verdictOfTwo n es p q ≡ record { number = 3; place = 0 }
+  two-left e h = two-inside e ∙ operands-left n p q h
+
+  pub two-right : isFormat n es ≡ true → p < 2 ^ n → 2 ^ n ≤ q → verdictOfTwo n es p q ≡ record { number = 3; place = 1 }
+  two-right e h k = two-inside e ∙ operands-right n p q h k
+
+  pub two-done : isFormat n es ≡ true → p < 2 ^ n → q < 2 ^ n → verdictOfTwo n es p q ≡ done
+  two-done e h k = two-inside e ∙ operands-done n p q h k
+
+-- ---- an operation on two posits
+module _ (n es op p q : ℕ) where
+  pub operation-outside : isFormat n es ≡ false → verdictOfOperation n es op p q ≡ record { number = 1; place = 0 }
+  unfolding verdictOfOperation
+  operation-outside e = format-hits n es _ e
+
+  pub operation-unknown : isFormat n es ≡ true → 3 < op → verdictOfOperation n es op p q ≡ record { number = 2; place = 0 }
+  unfolding verdictOfOperation
+  operation-unknown e h = format-passes n es _ e ∙ operation-hits op _ h
+
+  operation-inside : isFormat n es ≡ true → op ≤ 3 → verdictOfOperation n es op p q ≡ firstHit (operands n p q)
+  unfolding verdictOfOperation
+  operation-inside e h = format-passes n es _ e ∙ operation-passes op _ h
+
+  pub operation-left : isFormat n es ≡ true → op ≤ 3 → 2 ^ n ≤ p → verdictOfOperation n es op p q ≡ record { number = 3; place = 0 }
+  operation-left e l h = operation-inside e l ∙ operands-left n p q h
+
+  pub operation-right : isFormat n es ≡ true → op ≤ 3 → p < 2 ^ n → 2 ^ n ≤ q → verdictOfOperation n es op p q ≡ record { number = 3; place = 1 }
+  operation-right e l h k = operation-inside e l ∙ operands-right n p q h k
+
+  pub operation-done : isFormat n es ≡ true → op ≤ 3 → p < 2 ^ n → q < 2 ^ n → verdictOfOperation n es op p q ≡ done
+  operation-done e l h k = operation-inside e l ∙ operands-done n p q h k

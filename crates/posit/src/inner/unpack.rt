@@ -1,0 +1,105 @@
+// A pattern taken apart: its scale above minPos's and its significand, and from these the decoded posit.
+ghost use Prim.Native.Nat.{_+_, _-_, _^_, _<_, _≤_};
+ghost use mathlib.Core.Logic.{_≢_};
+ghost use mathlib.Core.Path.{_≡_};
+ghost use Rattle.posit.specs.Format as Spec;
+ghost use Rattle.posit.specs.Format.{Format};
+ghost use Rattle.posit.specs.Parts.{TailParts, PartsOf, Odd};
+ghost use Rattle.posit.specs.Decoding.{Decodes};
+use super::super::decoded::Decoded;
+use super::power::highest_bit;
+use super::power::negated;
+use super::power::power32;
+
+// A magnitude in units of minPos: 2^scale · significand / 2^bits.
+pub struct Parts {
+    pub scale: u32,
+    pub bits: u32,
+    pub significand: u32,
+}
+
+// A tail of w bits behind a regime: padded with es zero bits, its exponent and fraction are quotient and remainder of one number.
+fn tail_apart(es: u32, regime: u32, w: u32, tail: u32) -> Parts
+    requires { ⌜ (es ≤ 2) × (regime < 2 ^ 6) × (w < 2 ^ 4) × (tail < 2 ^ w) ⌝ }
+    ensures { λ r. ⌜ TailParts es regime w tail r ⌝ }
+{
+    let padded = tail * power32(es);
+    let unit = power32(w);
+    Parts {
+        scale: regime * power32(es) + padded / unit,
+        bits: w,
+        significand: unit + padded % unit,
+    }
+}
+
+// The parts of a pattern of b bits that begins with a run of zeros.
+fn zeros_apart(b: u32, es: u32, p: u32) -> Parts
+    requires { ⌜ (2 ≤ b) × (b ≤ 15) × (es ≤ 2) × (0 < p) × (p < 2 ^ (b - 1)) ⌝ }
+    ensures { λ r. ⌜ PartsOf b es p r ⌝ }
+{
+    let w = highest_bit(p as u64);
+    tail_apart(es, w, w, p - power32(w))
+}
+
+// The parts of a pattern of b bits that begins with a run of ones.
+fn ones_apart(b: u32, es: u32, p: u32) -> Parts
+    requires { ⌜ (2 ≤ b) × (b ≤ 15) × (es ≤ 2) × (2 ^ (b - 1) ≤ p) × (p < 2 ^ b) ⌝ }
+    ensures { λ r. ⌜ PartsOf b es p r ⌝ }
+{
+    let all = power32(b);
+    let missing = all - 1 - p;
+    if missing == 0 {
+        return Parts {
+            scale: 2 * ((b - 1) * power32(es)),
+            bits: 0,
+            significand: 1,
+        };
+    }
+    let w = highest_bit(missing as u64);
+    tail_apart(es, 2 * b - 3 - w, w, p + 2 * power32(w) - all)
+}
+
+// The parts of a pattern p of b bits that is not 0.
+pub fn take_apart(b: u32, es: u32, p: u32) -> Parts
+    requires { ⌜ (2 ≤ b) × (b ≤ 15) × (es ≤ 2) × (0 < p) × (p < 2 ^ b) ⌝ }
+    ensures { λ r. ⌜ PartsOf b es p r ⌝ }
+{
+    if p < power32(b - 1) {
+        zeros_apart(b, es, p)
+    } else {
+        ones_apart(b, es, p)
+    }
+}
+
+// The decoded form of a magnitude p with a sign: an odd fraction and its scale.
+fn odd_form(n: u32, es: u32, negative: bool, p: u32) -> Decoded
+    requires { ⌜ (Format n es) × (0 < p) × (p < Spec.nar n) ⌝ }
+    ensures { λ r. ⌜ Odd n es negative p r ⌝ }
+{
+    let x = take_apart(n - 1, es, p);
+    let zeros = u32::trailing_zeros(x.significand);
+    Decoded::Finite {
+        negative: negative,
+        scale: (x.scale + zeros) as i32 - (x.bits + (n - 2) * power32(es)) as i32,
+        fraction: x.significand / power32(zeros),
+    }
+}
+
+// A posit decoded.
+pub fn unpack(n: u32, es: u32, p: u32) -> Decoded
+    requires { ⌜ (Format n es) × (p < 2 ^ n) ⌝ }
+    ensures { λ r. ⌜ Decodes n es p r ⌝ }
+{
+    let nar = power32(n - 1);
+    if p == 0 {
+        return Decoded::Zero;
+    }
+    if p == nar {
+        return Decoded::Nar;
+    }
+    if p < nar {
+        odd_form(n, es, false, p)
+    } else {
+        odd_form(n, es, true, negated(n, p))
+    }
+}

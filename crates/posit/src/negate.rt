@@ -1,0 +1,34 @@
+// Negating: wrapping subtraction from zero, reduced to n bits; zero and NaR stay.
+ghost use Rattle.posit.specs.Negating.{NegationOf};
+use super::answer::Answer;
+use super::answer::DONE;
+use super::answer::LEFT;
+use super::answer::OUTSIDE_LIMITS;
+use super::answer::TOO_LARGE;
+use super::inner::format::is_format;
+use super::inner::power::negated;
+use super::inner::power::power32;
+
+pub fn negate(n: u32, es: u32, p: u32) -> Answer
+    ensures { λ r. ⌜ NegationOf n es p r ⌝ }
+{
+    if !is_format(n, es) {
+        return Answer {
+            number: OUTSIDE_LIMITS,
+            place: LEFT,
+            posit: 0,
+        };
+    }
+    if power32(n) <= p {
+        return Answer {
+            number: TOO_LARGE,
+            place: LEFT,
+            posit: 0,
+        };
+    }
+    Answer {
+        number: DONE,
+        place: LEFT,
+        posit: negated(n, p),
+    }
+}
