@@ -4,7 +4,7 @@ use mathlib.Core.Path.{_≡_, refl, ap, _∙_}
 use mathlib.Core.Bool.{Bool, true, false, cond}
 use mathlib.Core.Logic.{_≢_}
 use Prim.Native.Nat.{ℕ, zero, suc, _+_, _-_, _*_, _/_, _^_, _≤_, _<_}
-use native.Mathlib.Nat.{lt-of-lt-of-le}
+use native.Mathlib.Nat.{lt-of-lt-of-le, le-mul-of-pos-right}
 use native.Mathlib.Omega.{arith}
 use lib.Dec.{ltb}
 use lib.IntN.{pos, negsuc, _-ℤ_, -ℤ-+ℤ-cancel}
@@ -25,19 +25,21 @@ use Rattle.posit.specs.Format.{Format, nar, m, negated}
 use Rattle.posit.specs.Value.{multiple}
 use Rattle.posit.specs.Decoding.{Decodes}
 use Rattle.posit.specs.Parts.{PartsOf, OddOf, Odd}
+use Rattle.posit.specs.Magnitudes.{Small, Unpacks}
 use Rattle.posit.proofs.Apart.{times-power}
 use Rattle.posit.proofs.Mirror.{nar-is-half, units-below, value-above}
-use Rattle.posit.proofs.SetBits.{trailing, odd-quotient}
+use Rattle.posit.proofs.SetBits.{OddTimes, trailing, odd-quotient}
+use Rattle.posit.proofs.SmallForm.{ends-within, multiple-most, small-form}
 
 -- ---- sizes
-pub record Small (n es : ℕ) (r : Parts) : Type 0 where
+pub record SmallParts (n es : ℕ) (r : Parts) : Type 0 where
   pub scale : r .scale < 2 ^ 7
   pub bits : r .bits < 14
   pub positive : 0 < r .significand
-  pub significand : r .significand < 2 ^ 32
+  pub significand : r .significand < 2 ^ 14
   pub lift : (n - 2) * 2 ^ es < 2 ^ 6
 
-pub small : {n es p : ℕ} {r : Parts} → Format n es → PartsOf (n - 1) es p r → Small n es r
+pub small : {n es p : ℕ} {r : Parts} → Format n es → PartsOf (n - 1) es p r → SmallParts n es r
 small {n} {es} {p} {r} f x =
     let es-small : es ≤ 2 = f .exponent-fits in
     let n-small : n ≤ 16 = f .not-too-wide in
@@ -46,7 +48,7 @@ small {n} {es} {p} {r} f x =
       scale = omega (arith, x .scale-fits, times-power 4 {es = es} {x = n - 1 - 1} es-small (omega arith));
       bits = few;
       positive = lt-of-lt-of-le (pow-pos (r .bits)) (x .at-least);
-      significand = omega (arith, x .less, pow-mono {i = r .bits} {j = 14} (omega arith));
+      significand = omega (arith, x .less, pow-mono {i = r .bits} {j = 13} (omega arith));
       lift = times-power 4 {es = es} {x = n - 2} es-small (omega arith);
     }
 
@@ -71,10 +73,14 @@ odd-value g z scale bits k M e =
     ≈-trans (scaled-over (pos g) (pos (scale + z) -ℤ pos (bits + k)) (bits + k) (scale + z) (-ℤ-+ℤ-cancel (pos (scale + z)) (pos (bits + k))))
     (record { cross = ap pos (rw (pow-add 2 scale z, pow-add 2 bits k) (omega (arith, ap (λ (x : ℕ). x * 2 ^ k) e))) })
 
+-- ---- the odd part is no larger
+odd-less : {x t g k : ℕ} → OddTimes x t g → x < k → g < k
+odd-less {x} {t} {g} o h = omega (arith, o .product, le-mul-of-pos-right g (pow-pos t))
+
 -- ---- what the machine computes
 module _ {n es p : ℕ} {r : Parts} (f : Format n es) (x : PartsOf (n - 1) es p r) where
   pub zeros-few : trailingZeros 32 (r .significand) < 32
-  zeros-few = trailing 32 (r .significand) (small f x .positive) (small f x .significand) .0
+  zeros-few = trailing 32 (r .significand) (small f x .positive) (omega (arith, small f x .significand)) .0
 
   pub up-less : r .scale + trailingZeros 32 (r .significand) < 2 ^ 31
   up-less = let s = small f x in omega (arith, zeros-few)
@@ -90,19 +96,22 @@ module _ {n es p : ℕ} {r : Parts} (f : Format n es) (x : PartsOf (n - 1) es p 
       (r .significand / 2 ^ trailingZeros 32 (r .significand))
   odd-form negative u =
       let s = small f x in
-      let (few, (g, o)) = trailing 32 (r .significand) (s .positive) (s .significand) in
+      let (few, (g, o)) = trailing 32 (r .significand) (s .positive) (omega (arith, s .significand)) in
+      let says = x .says ∙ ap (λ (y : ℕ). 2 ^ r .scale * y) (o .product) in
       rw (difference-kept (r .scale + trailingZeros 32 (r .significand)) (r .bits + (n - 2) * 2 ^ es) up-less down-less, odd-quotient o)
       (record {
         sign-is = refl;
         odd = o .odd;
         means =
             rw (units-below n es u)
-            (odd-value g (trailingZeros 32 (r .significand)) (r .scale) (r .bits) (m n es) (multiple (n - 1) es p)
-            (x .says ∙ ap (λ (y : ℕ). 2 ^ r .scale * y) (o .product)));
+            (odd-value g (trailingZeros 32 (r .significand)) (r .scale) (r .bits) (m n es) (multiple (n - 1) es p) says);
+        small =
+            small-form g (trailingZeros 32 (r .significand)) (r .scale) (r .bits) (m n es) (multiple (n - 1) es p) (o .odd) (odd-less o (s .significand))
+            says (multiple-most f u) (ends-within f);
       })
 
 -- ---- with its sign
-pub decodes-below : {n p : ℕ} (es : ℕ) (d : Decoded) → 1 ≤ n → p ≢ 0 → p < nar n → Odd n es false p d → Decodes n es p d
+decodes-below : {n p : ℕ} (es : ℕ) (d : Decoded) → 1 ≤ n → p ≢ 0 → p < nar n → Odd n es false p d → Decodes n es p d
 decodes-below es Zero k h u o = absurd o
 decodes-below es Nar k h u o = absurd o
 decodes-below {n} {p} es (Finite sign s g) k h u o =
@@ -113,7 +122,7 @@ decodes-below {n} {p} es (Finite sign s g) k h u o =
       means = rw (o .sign-is) (o .means);
     }
 
-pub decodes-above : {n p : ℕ} (es : ℕ) (d : Decoded) → 1 ≤ n → nar n < p → p < 2 ^ n → Odd n es true (negated n p) d → Decodes n es p d
+decodes-above : {n p : ℕ} (es : ℕ) (d : Decoded) → 1 ≤ n → nar n < p → p < 2 ^ n → Odd n es true (negated n p) d → Decodes n es p d
 decodes-above es Zero k h u o = absurd o
 decodes-above es Nar k h u o = absurd o
 decodes-above {n} {p} es (Finite sign s g) k h u o =
@@ -123,3 +132,14 @@ decodes-above {n} {p} es (Finite sign s g) k h u o =
       odd = o .odd;
       means = rw (o .sign-is, value-above n es k h u) (≈-trans (≈-sym (scaled-negᶠ s (pos g))) (negᶠ-cong (o .means)));
     }
+
+small-of : (n es : ℕ) (negative : Bool) (p : ℕ) (d : Decoded) → Odd n es negative p d → Small d
+small-of n es negative p Zero o = absurd o
+small-of n es negative p Nar o = absurd o
+small-of n es negative p (Finite sign s g) o = o .small
+
+pub unpacks-below : {n p : ℕ} (es : ℕ) (d : Decoded) → 1 ≤ n → p ≢ 0 → p < nar n → Odd n es false p d → Unpacks n es p d
+unpacks-below {n} {p} es d k h u o = record { decodes = decodes-below es d k h u o; small = small-of n es false p d o }
+
+pub unpacks-above : {n p : ℕ} (es : ℕ) (d : Decoded) → 1 ≤ n → nar n < p → p < 2 ^ n → Odd n es true (negated n p) d → Unpacks n es p d
+unpacks-above {n} {p} es d k h u o = record { decodes = decodes-above es d k h u o; small = small-of n es true (negated n p) d o }

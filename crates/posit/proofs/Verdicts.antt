@@ -6,9 +6,10 @@ use mathlib.Core.List.{List, [], _∷_}
 use Prim.Native.Nat.{ℕ, zero, suc, _^_, _≤_, _<_}
 use native.Mathlib.Nat.{suc-ne-zero}
 use lib.Dec.{T, leb, ltb}
-use borrow.Author.Tests.{le-leb, lt-leb, lt-ltb, le-ltb, leb-true}
+use borrow.Author.Tests.{le-leb, lt-leb, lt-ltb, le-ltb, leb-true, leb-false}
 use Rattle.posit.specs.Format.{Format, isFormat}
 use Rattle.posit.specs.Refusal.{Verdict, Test, Answers, done, firstHit, left, right, formatTest, operationTest, positTest, verdictOfFormat, verdictOfOne, verdictOfTwo, verdictOfOperation}
+use Rattle.posit.specs.Operation.{Says}
 
 -- ---- the first hit
 pub hits : (t : Test) (ts : List Test) → t .hit ≡ true → firstHit (t ∷ ts) ≡ t .gives
@@ -41,6 +42,9 @@ answers-done e r =
       right = λ h. r;
       refused = λ h. absurd (h (ap (λ (x : Verdict). x .number) e));
     }
+
+pub says : {v : Verdict} {k place : ℕ} → v ≡ record { number = k; place = place } → Says v (record { number = k; place = place })
+says e = record { number = sym (ap (λ (x : Verdict). x .number) e); place = sym (ap (λ (x : Verdict). x .place) e) }
 
 -- ---- the format test, and a format from it
 both : (a b : Bool) → (a && b) ≡ true → (a ≡ true) × (b ≡ true)
@@ -150,3 +154,42 @@ module _ (n es op p q : ℕ) where
 
   pub operation-done : isFormat n es ≡ true → op ≤ 3 → p < 2 ^ n → q < 2 ^ n → verdictOfOperation n es op p q ≡ done
   operation-done e l h k = operation-inside e l ∙ operands-done n p q h k
+
+-- ---- an operation of a known number is judged by its two posits
+pub operation-judged : (n es op p q : ℕ) → op ≤ 3 → verdictOfOperation n es op p q ≡ verdictOfTwo n es p q
+operation-judged n es op p q l = by (isFormat n es) refl
+  where
+    by : (b : Bool) → isFormat n es ≡ b → verdictOfOperation n es op p q ≡ verdictOfTwo n es p q
+    by true e = operation-inside n es op p q e l ∙ sym (two-inside n es p q e)
+    by false e = operation-outside n es op p q e ∙ sym (two-outside n es p q e)
+
+-- ---- two posits that no test hits
+pub record Accepted (n es p q : ℕ) : Type 0 where
+  pub format : Format n es
+  pub left-fits : p < 2 ^ n
+  pub right-fits : q < 2 ^ n
+  pub verdict : verdictOfTwo n es p q ≡ done
+
+module _ (n es p q : ℕ) (passed : verdictOfTwo n es p q .number ≡ 0) where
+  not-hit : {X : Type 0} {k place : ℕ} → verdictOfTwo n es p q ≡ record { number = suc k; place = place } → X
+  not-hit {k = k} e = absurd (suc-ne-zero k (sym (ap (λ (x : Verdict). x .number) e) ∙ passed))
+
+  pub accepted : Accepted n es p q
+  accepted = by (isFormat n es) refl (leb (2 ^ n) p) refl (leb (2 ^ n) q) refl
+    where
+      by : (a : Bool) → isFormat n es ≡ a → (b : Bool) → leb (2 ^ n) p ≡ b → (c : Bool) → leb (2 ^ n) q ≡ c → Accepted n es p q
+      by false e b h c k = not-hit (two-outside n es p q e)
+      by true e true h c k = not-hit (two-left n es p q e (leb-true (2 ^ n) p h))
+      by true e false h true k = not-hit (two-right n es p q e (leb-false (2 ^ n) p h) (leb-true (2 ^ n) q k))
+      by true e false h false k =
+          let l = leb-false (2 ^ n) p h in
+          let r = leb-false (2 ^ n) q k in
+          record { format = format-of e; left-fits = l; right-fits = r; verdict = two-done n es p q e l r }
+
+-- ---- an operation that no test hits is one of a format
+pub operation-format : (n es op p q : ℕ) → verdictOfOperation n es op p q .number ≡ 0 → Format n es
+operation-format n es op p q passed = by (isFormat n es) refl
+  where
+    by : (b : Bool) → isFormat n es ≡ b → Format n es
+    by true e = format-of e
+    by false e = absurd (suc-ne-zero 0 (sym (ap (λ (x : Verdict). x .number) (operation-outside n es op p q e)) ∙ passed))

@@ -10,3 +10,5 @@ pub mod Comparing
 pub mod Negating
 pub mod Parts
 pub mod Locating
+pub mod Operation
+pub mod Magnitudes

@@ -13,6 +13,7 @@ use Rattle.posit.specs.Format.{maxPos, minPos, negated}
 use Rattle.posit.specs.Value.{multiple, value}
 use Rattle.posit.specs.Decoding.{finiteValue}
 use Rattle.posit.specs.Locating.{Locates, IsFloor}
+use Rattle.posit.specs.Magnitudes.{SmallForm}
 
 -- bit k is the highest set bit of x
 pub record HighestBit (x k : ℕ) : Type 0 where
@@ -33,11 +34,12 @@ pub record PartsOf (b es p : ℕ) (r : Parts) : Type 0 where
   pub few-bits : r .bits + 2 ≤ b
   pub scale-fits : r .scale ≤ 2 * ((b - 1) * 2 ^ es)
 
--- sign, scale and odd fraction of the magnitude p
+-- sign, scale and odd fraction of the magnitude p, a form as small as every posit's is
 pub record OddOf (n es : ℕ) (negative : Bool) (p : ℕ) (sign : Bool) (s : ℤ) (g : ℕ) : Type 0 where
   pub sign-is : sign ≡ negative
   pub odd : g % 2 ≡ 1
   pub means : finiteValue false s g ≈ value n es p
+  pub small : SmallForm s g
 
 abbrev pub Odd : ℕ → ℕ → Bool → ℕ → Decoded → Type 0
 Odd n es negative p Zero = ⊥

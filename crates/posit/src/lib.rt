@@ -6,3 +6,4 @@ pub mod decoded;
 pub mod encode;
 pub mod inner;
 pub mod negate;
+pub mod operate;

@@ -5,7 +5,7 @@ ghost use mathlib.Core.Path.{_≡_};
 ghost use Rattle.posit.specs.Format as Spec;
 ghost use Rattle.posit.specs.Format.{Format};
 ghost use Rattle.posit.specs.Parts.{TailParts, PartsOf, Odd};
-ghost use Rattle.posit.specs.Decoding.{Decodes};
+ghost use Rattle.posit.specs.Magnitudes.{Unpacks};
 use super::super::decoded::Decoded;
 use super::power::highest_bit;
 use super::power::negated;
@@ -88,7 +88,7 @@ fn odd_form(n: u32, es: u32, negative: bool, p: u32) -> Decoded
 // A posit decoded.
 pub fn unpack(n: u32, es: u32, p: u32) -> Decoded
     requires { ⌜ (Format n es) × (p < 2 ^ n) ⌝ }
-    ensures { λ r. ⌜ Decodes n es p r ⌝ }
+    ensures { λ r. ⌜ Unpacks n es p r ⌝ }
 {
     let nar = power32(n - 1);
     if p == 0 {

@@ -26,7 +26,7 @@ unpack-requires c κs =
 
 returns-3 : tie.Need-returns-3
 returns-3 c =
-    answers-done (one-done _ _ _ (sym (c .before .before .before .before .is-format .ensures) ∙ not-false _ (c .before .before .before .if1 .left)) (omega arith)) (c .unpack .ensures)
+    answers-done (one-done _ _ _ (sym (c .before .before .before .before .is-format .ensures) ∙ not-false _ (c .before .before .before .if1 .left)) (omega arith)) (c .unpack .ensures .decodes)
 
 pub decode-spec : {M : Type 1} → statement M
 decode-spec =

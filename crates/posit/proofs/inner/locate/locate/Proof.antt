@@ -73,22 +73,22 @@ abbrev left-over : tie.After-power5 → ℕ
 left-over c = 2 * first c .args .n - 3 - regime c
 
 highest-bit-requires : tie.Need-highest-bit-requires
-highest-bit-requires c κs = omega arith
+highest-bit-requires c κs = search needs
 
 cast-lift : tie.Need-cast-lift
-cast-lift c = record { fits = omega arith }
+cast-lift c = search needs
 
 add-lift : tie.Need-add-lift
-add-lift c = record { fits = omega arith }
+add-lift c = search needs
 
 cast-lift-2 : tie.Need-cast-lift-2
-cast-lift-2 c = record { fits = omega arith }
+cast-lift-2 c = search needs
 
 sub-lift : tie.Need-sub-lift
-sub-lift c = omega arith
+sub-lift c = search needs
 
 power-requires : tie.Need-power-requires
-power-requires c κs = omega arith
+power-requires c κs = search needs
 
 mul-lift : tie.Need-mul-lift
 mul-lift c = record { fits = omega (arith, lowest-small (c .before .before .pre .0) (c .power .ensures)) }
@@ -102,16 +102,16 @@ returns c =
     (rw (c .before .power .ensures) at (c .if1 .taken))
 
 sub-scale : tie.Need-sub-scale
-sub-scale c = omega arith
+sub-scale c = search needs
 
 power-requires-2 : tie.Need-power-requires-2
-power-requires-2 c κs = omega arith
+power-requires-2 c κs = search needs
 
 div-regime : tie.Need-div-regime
 div-regime c = rw (c .power2 .ensures) (pow-pos (c .before .before .before .before .args .es))
 
 power-requires-3 : tie.Need-power-requires-3
-power-requires-3 c κs = omega arith
+power-requires-3 c κs = search needs
 
 rem-x : tie.Need-rem-x
 rem-x c = rw (c .power3 .ensures) (pow-pos (c .before .before .before .before .before .args .es))
@@ -127,22 +127,22 @@ power-requires-5 : tie.Need-power-requires-5
 power-requires-5 c κs = omega (arith, below-62 (c .before .before .before .before .before))
 
 sub-x : tie.Need-sub-x
-sub-x c = omega arith
+sub-x c = search needs
 
 add-x : tie.Need-add-x
 add-x c = record { fits = omega (arith, bits-fit c, pow-mono {i = top c + first c .args .es} {j = 64} (omega (arith, width-fits c))) }
 
 cast-if2 : tie.Need-cast-if2
-cast-if2 c = record { fits = omega arith }
+cast-if2 c = search needs
 
 sub-if2 : tie.Need-sub-if2
-sub-if2 c = omega arith
+sub-if2 c = search needs
 
 cast-w : tie.Need-cast-w
-cast-w c = record { fits = omega arith }
+cast-w c = search needs
 
 power32-requires : tie.Need-power32-requires
-power32-requires c κs = omega arith
+power32-requires c κs = search needs
 
 add-cut : tie.Need-add-cut
 add-cut c = record { fits = omega (arith, width-fits (c .before .before)) }
@@ -162,31 +162,31 @@ returns-2 c =
     (c .before .before .if2 .taken)
 
 cast-if3 : tie.Need-cast-if3
-cast-if3 c = record { fits = omega arith }
+cast-if3 c = search needs
 
 sub-if3 : tie.Need-sub-if3
-sub-if3 c = omega arith
+sub-if3 c = search needs
 
 mul-if3 : tie.Need-mul-if3
-mul-if3 c = record { fits = omega arith }
+mul-if3 c = search needs
 
 mul-w : tie.Need-mul-w
-mul-w c = record { fits = omega arith }
+mul-w c = search needs
 
 sub-w : tie.Need-sub-w
-sub-w c = omega arith
+sub-w c = search needs
 
 cast-w-2 : tie.Need-cast-w-2
-cast-w-2 c = record { fits = omega arith }
+cast-w-2 c = search needs
 
 sub-w-2 : tie.Need-sub-w-2
-sub-w-2 c = omega arith
+sub-w-2 c = search needs
 
 power32-requires-2 : tie.Need-power32-requires-2
-power32-requires-2 c κs = omega arith
+power32-requires-2 c κs = search needs
 
 power32-requires-3 : tie.Need-power32-requires-3
-power32-requires-3 c κs = omega arith
+power32-requires-3 c κs = search needs
 
 mul-cut : tie.Need-mul-cut
 mul-cut c = record { fits = omega (arith, power-small (left-over (c .before .before .before .before)) (omega arith) (c .power323 .ensures)) }
@@ -213,22 +213,22 @@ returns-3 c =
     (omega (arith, regime-is (c .before .before .before .before .before)))
 
 power32-requires-4 : tie.Need-power32-requires-4
-power32-requires-4 c κs = omega arith
+power32-requires-4 c κs = search needs
 
 sub-t80 : tie.Need-sub-t80
 sub-t80 c = omega (arith, c .power324 .ensures, pow-pos (first (c .before .before .before) .args .n))
 
 cast-if4 : tie.Need-cast-if4
-cast-if4 c = record { fits = omega arith }
+cast-if4 c = search needs
 
 sub-if4 : tie.Need-sub-if4
-sub-if4 c = omega arith
+sub-if4 c = search needs
 
 mul-if4 : tie.Need-mul-if4
-mul-if4 c = record { fits = omega arith }
+mul-if4 c = search needs
 
 power-requires-6 : tie.Need-power-requires-6
-power-requires-6 c κs = omega arith
+power-requires-6 c κs = search needs
 
 mul-if4-2 : tie.Need-mul-if4-2
 mul-if4-2 c = record { fits = omega (arith, twice-small (c .before .before .before .before .before .before .before .before .before .before .before .pre .0) (c .power6 .ensures)) }

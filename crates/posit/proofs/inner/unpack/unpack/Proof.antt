@@ -2,7 +2,7 @@
 use native.Mathlib.Omega.{arith}
 use borrow.Author.Needs.{needs}
 use Rattle.posit.proofs.Mirror.{nar-is-half, negated-positive}
-use Rattle.posit.proofs.OddForm.{decodes-below, decodes-above}
+use Rattle.posit.proofs.OddForm.{unpacks-below, unpacks-above}
 use Rattle.posit.proofs.inner.unpack.unpack.Statement.{statement}
 use Rattle.posit.proofs.inner.unpack.unpack.Tie as tie
 
@@ -31,11 +31,11 @@ odd-form-requires-2 c κs =
 
 returns-3 : tie.Need-returns-3
 returns-3 c =
-    decodes-below _ (c .odd-form .result) (omega arith) (c .before .before .before .if1 .left) (omega arith) (c .odd-form .ensures)
+    unpacks-below _ (c .odd-form .result) (omega arith) (c .before .before .before .if1 .left) (omega arith) (c .odd-form .ensures)
 
 returns-4 : tie.Need-returns-4
 returns-4 c =
-    decodes-above _ (c .odd-form2 .result) (omega arith) (omega arith) (c .before .before .before .before .before .before .pre .1) (rw (c .before .negated .ensures) at (c .odd-form2 .ensures))
+    unpacks-above _ (c .odd-form2 .result) (omega arith) (omega arith) (c .before .before .before .before .before .before .pre .1) (rw (c .before .negated .ensures) at (c .odd-form2 .ensures))
 
 pub unpack-spec : {M : Type 1} → statement M
 unpack-spec =

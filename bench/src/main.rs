@@ -1,0 +1,97 @@
+//! Prints one table: nanoseconds per operation of the proved code, plain Rust and the second program.
+
+mod column;
+mod plain;
+mod stopwatch;
+
+use column::{Column, LENGTH};
+use std::fmt::Debug;
+use std::hint::black_box;
+use stopwatch::nanoseconds;
+
+fn main() {
+    println!("| Format | Call | Proved | Plain Rust | Second program |");
+    println!("|---|---|---|---|---|");
+    for (n, es) in [(8, 2), (16, 2)] {
+        lines(&Column::of(n, es));
+    }
+}
+
+/// A line for each call on a row of the column.
+fn lines(column: &Column) {
+    line(
+        "decode",
+        column,
+        |c, row| jorumrain::decode(c.n, c.es, c.left[row]),
+        |c, row| plain::decode(c.n, c.es, c.left[row]),
+        |c, row| second::posit::decode(c.n, c.es, c.left[row].into()),
+    );
+    line(
+        "encode",
+        column,
+        |c, row| {
+            let x = &c.numbers[row];
+            jorumrain::encode(
+                c.n,
+                c.es,
+                jorumrain::FINITE,
+                x.negative,
+                x.scale,
+                x.fraction,
+            )
+        },
+        |c, row| {
+            let x = &c.numbers[row];
+            plain::encode(
+                c.n,
+                c.es,
+                jorumrain::FINITE,
+                x.negative,
+                x.scale,
+                x.fraction,
+            )
+        },
+        |c, row| second::posit::encode(c.n, c.es, c.numbers[row].decoded()),
+    );
+    line(
+        "compare",
+        column,
+        |c, row| jorumrain::compare(c.n, c.es, c.left[row], c.right[row]),
+        |c, row| plain::compare(c.n, c.es, c.left[row], c.right[row]),
+        |c, row| second::posit::compare(c.n, c.es, c.left[row].into(), c.right[row].into()),
+    );
+    line(
+        "negate",
+        column,
+        |c, row| jorumrain::negate(c.n, c.es, c.left[row]),
+        |c, row| plain::negate(c.n, c.es, c.left[row]),
+        |c, row| second::posit::negate(c.n, c.es, c.left[row].into()),
+    );
+}
+
+/// The three programs on one call, once plain Rust is seen to answer as the proved code does.
+fn line<T: PartialEq + Debug, U>(
+    name: &str,
+    column: &Column,
+    proved: impl Fn(&Column, usize) -> T,
+    plain: impl Fn(&Column, usize) -> T,
+    second: impl Fn(&Column, usize) -> U,
+) {
+    for row in 0..LENGTH {
+        assert_eq!(proved(column, row), plain(column, row), "{name}, row {row}");
+    }
+    let [proved, plain, second] =
+        nanoseconds([&|| pass(column, &proved), &|| pass(column, &plain), &|| {
+            pass(column, &second)
+        }]);
+    let format = (column.n, column.es);
+    println!("| {format:?} | {name} | {proved:.1} | {plain:.1} | {second:.1} |");
+}
+
+/// The call on each row of the column once.
+fn pass<T>(column: &Column, call: impl Fn(&Column, usize) -> T) {
+    let column = black_box(column);
+    for row in 0..LENGTH {
+        black_box(call(column, row));
+    }
+}

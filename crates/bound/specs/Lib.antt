@@ -1,0 +1,14 @@
+pub mod Order
+pub mod Bound
+pub mod Hull
+pub mod Extent
+pub mod Operation
+pub mod Above
+pub mod Sign
+pub mod Arithmetic
+pub mod Cell
+pub mod End
+pub mod Range
+pub mod RangeArithmetic
+pub mod Fractions
+pub mod FractionArithmetic

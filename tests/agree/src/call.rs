@@ -1,0 +1,124 @@
+//! One call on both programs: the second program's answer in the static library's shape, and both compared.
+
+use crate::tally::{Difference, Tally};
+use jorumrain::{PositAnswer, PositComparison, PositDecoding};
+use second::posit::{self, Decoded};
+use second::refusal::Answer;
+use std::cmp::Ordering;
+use std::fmt::Debug;
+
+/// Counts an answer that both give; the difference names the call with its arguments in decimal.
+fn agree<T: PartialEq + Debug>(
+    tally: &mut Tally,
+    name: &'static str,
+    arguments: &dyn Debug,
+    number: u32,
+    proved: T,
+    second: Option<T>,
+) -> Result<(), Difference> {
+    if second.as_ref() == Some(&proved) {
+        tally.count(name, number);
+        return Ok(());
+    }
+    let second = second.map_or("too large".into(), |answer| format!("{answer:?}"));
+    let answers = format!("proved {proved:?}, second {second}");
+    Err(Difference(format!("{name} {arguments:?}: {answers}")))
+}
+
+pub fn decode(tally: &mut Tally, n: u32, es: u32, pattern: u32) -> Result<(), Difference> {
+    let proved = jorumrain::decode(n, es, pattern);
+    let second = shape_of_decoding(posit::decode(n, es, pattern.into()));
+    let arguments = (n, es, pattern);
+    agree(tally, "decode", &arguments, proved.number, proved, second)
+}
+
+pub fn encode(tally: &mut Tally, n: u32, es: u32, decoded: Decoded) -> Result<(), Difference> {
+    match decoded {
+        Decoded::Zero => encode_as(tally, n, es, (jorumrain::ZERO, false, 0, 0), decoded),
+        Decoded::Nar => encode_as(tally, n, es, (jorumrain::NAR, false, 0, 0), decoded),
+        Decoded::Finite {
+            negative,
+            scale,
+            fraction,
+        } => {
+            let parts = (jorumrain::FINITE, negative, scale, fraction);
+            encode_as(tally, n, es, parts, decoded)
+        }
+    }
+}
+
+/// Encoding of kind, sign, scale and fraction that stand for the decoded posit.
+pub fn encode_as(
+    tally: &mut Tally,
+    n: u32,
+    es: u32,
+    parts: (u32, bool, i32, u32),
+    decoded: Decoded,
+) -> Result<(), Difference> {
+    let (kind, negative, scale, fraction) = parts;
+    let proved = jorumrain::encode(n, es, kind, negative, scale, fraction);
+    let second = shape_of_posit(posit::encode(n, es, decoded));
+    let arguments = (n, es, kind, negative, scale, fraction);
+    agree(tally, "encode", &arguments, proved.number, proved, second)
+}
+
+pub fn compare(
+    tally: &mut Tally,
+    n: u32,
+    es: u32,
+    left: u32,
+    right: u32,
+) -> Result<(), Difference> {
+    let proved = jorumrain::compare(n, es, left, right);
+    let second = shape_of_order(posit::compare(n, es, left.into(), right.into()));
+    let arguments = (n, es, left, right);
+    agree(tally, "compare", &arguments, proved.number, proved, second)
+}
+
+pub fn negate(tally: &mut Tally, n: u32, es: u32, pattern: u32) -> Result<(), Difference> {
+    let proved = jorumrain::negate(n, es, pattern);
+    let second = shape_of_posit(posit::negate(n, es, pattern.into()));
+    let arguments = (n, es, pattern);
+    agree(tally, "negate", &arguments, proved.number, proved, second)
+}
+
+/// The shapes, or nothing where a number does not fit, which then differs from every answer.
+fn shape_of_posit(answer: Answer<u64>) -> Option<PositAnswer> {
+    Some(PositAnswer {
+        number: answer.number,
+        place: answer.place.try_into().ok()?,
+        posit: answer.value.try_into().ok()?,
+    })
+}
+
+fn shape_of_order(answer: Answer<Ordering>) -> Option<PositComparison> {
+    Some(PositComparison {
+        number: answer.number,
+        place: answer.place.try_into().ok()?,
+        order: match answer.value {
+            Ordering::Less => jorumrain::LESS,
+            Ordering::Equal => jorumrain::EQUAL,
+            Ordering::Greater => jorumrain::GREATER,
+        },
+    })
+}
+
+fn shape_of_decoding(answer: Answer<Decoded>) -> Option<PositDecoding> {
+    let (kind, negative, scale, fraction) = match answer.value {
+        Decoded::Zero => (jorumrain::ZERO, false, 0, 0),
+        Decoded::Nar => (jorumrain::NAR, false, 0, 0),
+        Decoded::Finite {
+            negative,
+            scale,
+            fraction,
+        } => (jorumrain::FINITE, negative, scale, fraction),
+    };
+    Some(PositDecoding {
+        number: answer.number,
+        place: answer.place.try_into().ok()?,
+        kind,
+        negative,
+        scale,
+        fraction,
+    })
+}

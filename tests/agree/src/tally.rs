@@ -1,0 +1,43 @@
+//! The outcome of a group: how many answers of each number agreed, or the first difference.
+
+use std::collections::BTreeMap;
+use std::fmt;
+
+/// The first call on which the two programs differ, with what each answered.
+pub struct Difference(pub String);
+
+impl fmt::Display for Difference {
+    fn fmt(&self, f: &mut fmt::Formatter) -> fmt::Result {
+        f.write_str(&self.0)
+    }
+}
+
+pub type Outcome = Result<Tally, Difference>;
+
+/// How many calls agreed, by call and by the number that they came back with.
+#[derive(Default)]
+pub struct Tally {
+    calls: BTreeMap<&'static str, u64>,
+    numbers: BTreeMap<u32, u64>,
+}
+
+impl Tally {
+    pub fn count(&mut self, call: &'static str, number: u32) {
+        *self.calls.entry(call).or_default() += 1;
+        *self.numbers.entry(number).or_default() += 1;
+    }
+}
+
+impl fmt::Display for Tally {
+    fn fmt(&self, f: &mut fmt::Formatter) -> fmt::Result {
+        let total: u64 = self.calls.values().sum();
+        write!(f, "{total} calls agree")?;
+        for (call, count) in &self.calls {
+            write!(f, ", {call} {count}")?;
+        }
+        for (number, count) in &self.numbers {
+            write!(f, "; number {number}: {count}")?;
+        }
+        Ok(())
+    }
+}
