@@ -1,0 +1,66 @@
+// The tests of range words: 3 for a word that is too large, 4 for one that holds infinity.
+ghost use Prim.Native.Nat.{_≤_};
+ghost use Rattle.range.specs.Calls.{SaysVerdict, verdictOfWord};
+ghost use Rattle.range.specs.Refusal.{verdictOfRange, verdictOfRanges};
+use super::super::answer::HOLDS_INFINITY;
+use super::word::holds_infinity;
+use posit::answer::DONE;
+use posit::answer::LEFT;
+use posit::answer::OUTSIDE_LIMITS;
+use posit::answer::RIGHT;
+use posit::answer::TOO_LARGE;
+use posit::inner::format::is_format;
+use posit::inner::power::power;
+
+pub struct Judged {
+    pub number: u32,
+    pub place: u32,
+}
+
+// One word, at a place.
+pub fn judge_word(n: u32, place: u32, a: u64) -> Judged
+    requires { ⌜ (3 ≤ n) × (n ≤ 16) ⌝ }
+    ensures { λ r. ⌜ SaysVerdict (verdictOfWord n place a) r ⌝ }
+{
+    if power(2 * n + 2) <= a {
+        return Judged {
+            number: TOO_LARGE,
+            place: place,
+        };
+    }
+    if holds_infinity(n, a) {
+        return Judged {
+            number: HOLDS_INFINITY,
+            place: place,
+        };
+    }
+    Judged {
+        number: DONE,
+        place: LEFT,
+    }
+}
+
+// A call on one range.
+pub fn judge_range(n: u32, es: u32, a: u64) -> Judged
+    ensures { λ r. ⌜ SaysVerdict (verdictOfRange n es a) r ⌝ }
+{
+    if !is_format(n, es) {
+        return Judged {
+            number: OUTSIDE_LIMITS,
+            place: LEFT,
+        };
+    }
+    judge_word(n, LEFT, a)
+}
+
+// A call on two ranges.
+pub fn judge_ranges(n: u32, es: u32, a: u64, b: u64) -> Judged
+    ensures { λ r. ⌜ SaysVerdict (verdictOfRanges n es a b) r ⌝ }
+{
+    let first = judge_range(n, es, a);
+    let number = first.number;
+    if number != DONE {
+        return first;
+    }
+    judge_word(n, RIGHT, b)
+}
