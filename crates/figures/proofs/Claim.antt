@@ -5,8 +5,9 @@ use Rattle.posit.specs.Reading.{run}
 use Rattle.posit.specs.Value.{multiple, units}
 use Rattle.posit.specs.Nearest.{floorUpTo, chosen, nearestAbove, nearest}
 use Rattle.posit.specs.Arithmetic.{answer}
+use Rattle.range.specs.Computed.{answerOf}
 use Rattle.figures.specs.Figures.{figures, all}
 
 pub figures-hold : all figures ≡ true
-unfolding run multiple units floorUpTo chosen nearestAbove nearest answer
+unfolding run multiple units floorUpTo chosen nearestAbove nearest answer answerOf
 figures-hold = refl

@@ -1,9 +1,28 @@
 -- The bench figures of document 01, n = 8 and es = 2: one list, and one claim that each case has its answer by the definitions.
 use mathlib.Core.Bool.{Bool, true, false, _&&_}
 use mathlib.Core.List.{List, [], _∷_}
-use Prim.Native.Nat.{ℕ}
+use Prim.Native.Nat.{ℕ, _+_, _*_}
 use lib.Dec.{T, eqb}
 use Rattle.posit.specs.Arithmetic.{answer}
+use Rattle.range.specs.Word.{wordOf}
+use Rattle.range.specs.Computed.{answerOf}
+
+-- the bench's format
+abbrev pub width : ℕ
+width = 8
+
+abbrev pub exponentSize : ℕ
+exponentSize = 2
+
+-- a range by its end tiles
+abbrev closed : ℕ → ℕ
+closed p = 2 * p
+
+abbrev open-end : ℕ → ℕ
+open-end p = 2 * p + 1
+
+abbrev word : ℕ → ℕ → ℕ
+word start end = wordOf width start end
 
 -- operation numbers
 abbrev plus : ℕ
@@ -15,16 +34,10 @@ times = 2
 abbrev over : ℕ
 over = 3
 
--- an operation number, two posits and the posit that is the answer
+-- an operation number, two posits or two ranges, and the posit or range that is the answer
 pub data Case : Type 0 where
   posits : ℕ → ℕ → ℕ → ℕ → Case
-
--- the bench's format
-abbrev pub width : ℕ
-width = 8
-
-abbrev pub exponentSize : ℕ
-exponentSize = 2
+  ranges : ℕ → ℕ → ℕ → ℕ → Case
 
 abbrev pub figures : List Case
 figures =
@@ -36,10 +49,15 @@ figures =
     ∷ posits times 0x7e 0x58 0x7f  -- F, 2^23
     ∷ posits times 0x01 0x01 0x01  -- G
     ∷ posits over 0x40 0x00 0x80  -- H
+    ∷ ranges times (word (closed 0x00) (open-end 0x40)) (word (open-end 0x40) (open-end 0x48)) (word (closed 0x00) (open-end 0x48))  -- I
+    ∷ ranges times (word (closed 0xc0) (open-end 0x40)) (word (closed 0xc0) (open-end 0x40)) (word (open-end 0xc0) (closed 0x40))  -- J
+    ∷ ranges plus (word (closed 0x7f) (closed 0x7f)) (word (closed 0x40) (closed 0x40)) (word (open-end 0x7f) (open-end 0x80))  -- K
+    ∷ ranges over (word (closed 0x40) (closed 0x40)) (word (open-end 0x00) (closed 0x40)) (word (closed 0x40) (open-end 0x80))  -- L
     ∷ []
 
 abbrev pub holds : Case → Bool
 holds (posits op p q r) = eqb (answer width exponentSize op p q) r
+holds (ranges op a b c) = eqb (answerOf width exponentSize op a b) c
 
 abbrev pub all : List Case → Bool
 all [] = true
