@@ -55,3 +55,7 @@ pub mod Turned
 pub mod RoundTrip
 pub mod Comparison
 pub mod Negation
+pub mod FloatRead
+pub mod FloatMade
+pub mod FloatExact
+pub mod FloatTrip

@@ -12,3 +12,4 @@ pub mod Parts
 pub mod Locating
 pub mod Operation
 pub mod Magnitudes
+pub mod Floats

@@ -1,6 +1,7 @@
 // What the layers above use of the posits beside the public calls; these functions may ask something of their caller.
 pub mod add;
 pub mod divide;
+pub mod float_bits;
 pub mod format;
 pub mod judge;
 pub mod locate;
