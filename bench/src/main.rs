@@ -5,6 +5,7 @@ mod plain;
 mod stopwatch;
 
 use column::{Column, LENGTH};
+use second::refusal::Answer;
 use std::fmt::Debug;
 use std::hint::black_box;
 use stopwatch::nanoseconds;
@@ -67,6 +68,20 @@ fn lines(column: &Column) {
         |c, row| plain::negate(c.n, c.es, c.left[row]),
         |c, row| second::posit::negate(c.n, c.es, c.left[row].into()),
     );
+    for (name, op) in [("add", 0), ("multiply", 2), ("divide", 3)] {
+        line(
+            name,
+            column,
+            |c, row| jorumrain::operate(c.n, c.es, op, c.left[row], c.right[row]),
+            |c, row| plain::operate(c.n, c.es, op, c.left[row], c.right[row]),
+            |c, row| second_operation(c, op, row),
+        );
+    }
+}
+
+fn second_operation(c: &Column, op: u8, row: usize) -> Answer<u64> {
+    let (left, right) = (c.left[row].into(), c.right[row].into());
+    second::posit::operate(c.n, c.es, op.into(), left, right)
 }
 
 /// The three programs on one call, once plain Rust is seen to answer as the proved code does.

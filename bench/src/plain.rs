@@ -1,7 +1,11 @@
 //! The posit calls in plain Rust, by the steps of the proved code, without proofs.
 
+mod operate;
+mod sum;
+
 use jorumrain::{PositAnswer, PositComparison, PositDecoding};
 use jorumrain::{EQUAL, FINITE, GREATER, LESS, NAR, ZERO};
+pub use operate::operate;
 
 /// Zero bits put below a fraction before it is located.
 const SPARE_BITS: u64 = 29;
@@ -35,6 +39,10 @@ pub extern "C" fn decode(n: u32, es: u32, p: u32) -> PositDecoding {
     if power32(n) <= p {
         return decoding(3, ZERO);
     }
+    unpack(n, es, p)
+}
+
+fn unpack(n: u32, es: u32, p: u32) -> PositDecoding {
     let nar = power32(n - 1);
     if p == 0 {
         decoding(0, ZERO)
@@ -114,24 +122,40 @@ pub extern "C" fn encode(
     fraction: u32,
 ) -> PositAnswer {
     if !is_format(n, es) {
-        return answer(1, 0);
+        return refused(1, 0);
     }
     if kind == ZERO || (kind == FINITE && fraction == 0) {
-        return answer(0, 0);
+        return done(0);
     }
     if kind != FINITE {
-        return answer(0, power32(n - 1));
+        return done(power32(n - 1));
     }
     let (floor, exact) = locate_scaled(n, es, scale, fraction);
     let p = rounded(n, floor, exact);
-    answer(0, if negative { negated(n, p) } else { p })
+    done(with_sign(n, negative, p))
 }
 
-fn answer(number: u32, posit: u32) -> PositAnswer {
+fn refused(number: u32, place: u32) -> PositAnswer {
     PositAnswer {
         number,
+        place,
+        posit: 0,
+    }
+}
+
+fn done(posit: u32) -> PositAnswer {
+    PositAnswer {
+        number: 0,
         place: 0,
         posit,
+    }
+}
+
+fn with_sign(n: u32, negative: bool, p: u32) -> u32 {
+    if negative {
+        negated(n, p)
+    } else {
+        p
     }
 }
 
@@ -219,10 +243,10 @@ fn comparison(number: u32, place: u32, order: u32) -> PositComparison {
 #[inline(never)]
 pub extern "C" fn negate(n: u32, es: u32, p: u32) -> PositAnswer {
     if !is_format(n, es) {
-        return answer(1, 0);
+        return refused(1, 0);
     }
     if power32(n) <= p {
-        return answer(3, 0);
+        return refused(3, 0);
     }
-    answer(0, negated(n, p))
+    done(negated(n, p))
 }

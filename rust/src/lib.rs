@@ -1,7 +1,9 @@
-//! The proved calls on posits, as the static library exports them.
+//! The proved calls on posits, and in `range` those on ranges, as the static library exports them.
 //!
 //! Each takes every value of its parameters and answers document 01's number and place with the
 //! value beside them. Look at the number first: a refused posit is 0, which is also the posit 0.
+
+pub mod range;
 
 /// Number, place and a posit.
 #[repr(C)]
@@ -33,10 +35,23 @@ pub struct PositComparison {
     pub order: u32,
 }
 
+/// Number, place and a posit as a float: its kind, and the float where that is `FLOAT`, 0.0 elsewhere.
+#[repr(C)]
+#[derive(Clone, Copy, Debug)]
+pub struct PositFloating {
+    pub number: u32,
+    pub place: u32,
+    pub kind: u32,
+    pub float: f64,
+}
+
 /// The kinds of decoded posits; encoding takes every other number as NaR.
 pub const ZERO: u32 = 0;
 pub const NAR: u32 = 1;
 pub const FINITE: u32 = 2;
+
+/// The kind of a posit that is a float; that of NaR is `NAR`.
+pub const FLOAT: u32 = 0;
 
 /// The orders.
 pub const LESS: u32 = 0;
@@ -63,4 +78,14 @@ unsafe extern "C" {
 
     #[link_name = "jorumrain_posit_negate"]
     pub safe fn negate(n: u32, es: u32, pattern: u32) -> PositAnswer;
+
+    /// 0 adds, 1 subtracts, 2 multiplies, 3 divides; every other number is refused.
+    #[link_name = "jorumrain_posit_operate"]
+    pub safe fn operate(n: u32, es: u32, operation: u8, left: u32, right: u32) -> PositAnswer;
+
+    #[link_name = "jorumrain_posit_from_float"]
+    pub safe fn from_float(n: u32, es: u32, float: f64) -> PositAnswer;
+
+    #[link_name = "jorumrain_posit_to_float"]
+    pub safe fn to_float(n: u32, es: u32, pattern: u32) -> PositFloating;
 }

@@ -10,11 +10,14 @@ use Rattle.posit.specs.declared.compare.Comparison.{Comparison}
 use Rattle.posit.specs.declared.decode.Decoding.{Decoding}
 use Rattle.posit.specs.declared.decoded.Decoded.{Decoded}
 use Rattle.posit.specs.declared.decoded.Decoded.the-variants.{Zero, Nar, Finite}
+use Rattle.posit.specs.declared.float.Floated.{Floated}
+use Rattle.posit.specs.declared.to_float.Floating.{Floating}
 use Rattle.posit.specs.Decoding.{EncodingOf}
 use Rattle.link.specs.declared.shape.PositAnswer.{PositAnswer}
 use Rattle.link.specs.declared.shape.PositComparison.{PositComparison}
 use Rattle.link.specs.declared.shape.PositDecoding.{PositDecoding}
-use Rattle.link.specs.Shapes.{ofAnswer, ofDecoding, ofComparison, orderNumber, kindNumber, isNegative, scaleOf, fractionOf, decodedOf}
+use Rattle.link.specs.declared.shape.PositFloating.{PositFloating}
+use Rattle.link.specs.Shapes.{ofAnswer, ofDecoding, ofComparison, orderNumber, kindNumber, isNegative, scaleOf, fractionOf, decodedOf, ofFloating, floatKind, floatOf}
 use Rattle.link.specs.Calls.{EncodesAs}
 
 -- ---- decoded posits
@@ -36,6 +39,13 @@ pub finite-shaped :
     (x : Decoding) {negative : Bool} {z s : ℤ} {g : ℕ} → x .decoded ≡ Finite negative s g → z ≡ s
     → shapedAs (x .number) (x .place) (Finite negative z g) ≡ ofDecoding x
 finite-shaped x {negative} {g = g} e k = decoding-shaped x (e ∙ ap (λ s. Finite negative s g) (sym k))
+
+-- ---- floats
+abbrev floatedAs : ℕ → ℕ → Floated → PositFloating
+floatedAs number place f = record { number = number; place = place; kind = floatKind f; float = floatOf f }
+
+pub floating-shaped : (x : Floating) {f : Floated} → x .floated ≡ f → floatedAs (x .number) (x .place) f ≡ ofFloating x
+floating-shaped x e = ap (floatedAs (x .number) (x .place)) (sym e)
 
 -- ---- orders
 abbrev orderedAs : ℕ → ℕ → ℕ → PositComparison

@@ -1,2 +1,4 @@
 pub mod Shapes
 pub mod Calls
+pub mod RangeShapes
+pub mod RangeCalls

@@ -1,8 +1,9 @@
--- The plain shapes of the posit calls' answers: each case of an enum has its number, and the parts that a case lacks are 0 and false.
+-- The plain shapes of the posit calls' answers: each case of an enum has its number, and the parts that a case lacks are 0, false and +0.0.
 use mathlib.Core.Bool.{Bool, true, false}
 use Prim.Native.Nat.{ℕ}
 use lib.IntN.{ℤ, pos}
 use lib.Dec.{eqb}
+use lib.Ieee.{Float}
 use Rattle.posit.specs.declared.answer.Answer.{Answer}
 use Rattle.posit.specs.declared.compare.Comparison.{Comparison}
 use Rattle.posit.specs.declared.compare.Order.{Order}
@@ -10,9 +11,14 @@ use Rattle.posit.specs.declared.compare.Order.the-variants.{Less, Equal, Greate
 use Rattle.posit.specs.declared.decode.Decoding.{Decoding}
 use Rattle.posit.specs.declared.decoded.Decoded.{Decoded}
 use Rattle.posit.specs.declared.decoded.Decoded.the-variants.{Zero, Nar, Finite}
+use Rattle.posit.specs.declared.float.Floated.{Floated}
+use Rattle.posit.specs.declared.float.Floated.the-variants as floated
+use Rattle.posit.specs.declared.to_float.Floating.{Floating}
+use Rattle.posit.specs.Floats.{plusZero}
 use Rattle.link.specs.declared.shape.PositAnswer.{PositAnswer}
 use Rattle.link.specs.declared.shape.PositComparison.{PositComparison}
 use Rattle.link.specs.declared.shape.PositDecoding.{PositDecoding}
+use Rattle.link.specs.declared.shape.PositFloating.{PositFloating}
 
 abbrev pub ofAnswer : Answer → PositAnswer
 ofAnswer x = record { number = x .number; place = x .place; posit = x .posit }
@@ -65,3 +71,15 @@ pick false a b = b
 -- the decoded posit of a kind's number: zero for 0, finite for 2, and NaR for 1 and for every number that is no kind
 abbrev pub decodedOf : ℕ → Bool → ℤ → ℕ → Decoded
 decodedOf kind negative s g = pick (eqb kind 0) Zero (pick (eqb kind 2) (Finite negative s g) Nar)
+
+-- a posit's float by its number: 0 a float, 1 NaR
+abbrev pub floatKind : Floated → ℕ
+floatKind (floated.Value x) = 0
+floatKind floated.Nar = 1
+
+abbrev pub floatOf : Floated → Float
+floatOf (floated.Value x) = x
+floatOf floated.Nar = plusZero
+
+abbrev pub ofFloating : Floating → PositFloating
+ofFloating x = record { number = x .number; place = x .place; kind = floatKind (x .floated); float = floatOf (x .floated) }

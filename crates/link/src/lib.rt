@@ -1,6 +1,12 @@
-// The calls on posits for programs in Rust and C: enums as document 01's numbers, answers as plain structs.
+// The calls on posits and ranges for programs in Rust and C: enums as document 01's numbers, answers as plain structs.
 pub mod compare;
 pub mod decode;
 pub mod encode;
+pub mod from_float;
 pub mod negate;
+pub mod operate;
+pub mod range_compare;
+pub mod range_negate;
+pub mod range_shape;
 pub mod shape;
+pub mod to_float;

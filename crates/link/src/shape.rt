@@ -1,4 +1,4 @@
-// The structs that the exported calls give, and the posit calls' answers turned into them.
+// The structs that the exported calls on posits give, and the posit calls' answers turned into them.
 ghost use mathlib.Core.Path.{_≡_};
 ghost use Rattle.link.specs.Shapes as Spec;
 use posit::answer::Answer;
@@ -6,6 +6,8 @@ use posit::compare::Comparison;
 use posit::compare::Order;
 use posit::decode::Decoding;
 use posit::decoded::Decoded;
+use posit::float::Floated;
+use posit::to_float::Floating;
 
 // A refusal's number and place, and a posit.
 #[repr(C)]
@@ -34,12 +36,24 @@ pub struct PositComparison {
     pub order: u32,
 }
 
+// A refusal's number and place, and a posit as a float: its kind, and the float where it is no NaR.
+#[repr(C)]
+pub struct PositFloating {
+    pub number: u32,
+    pub place: u32,
+    pub kind: u32,
+    pub float: f64,
+}
+
 // The kinds of decoded posits.
 pub const ZERO: u32 = 0;
 
 pub const NAR: u32 = 1;
 
 pub const FINITE: u32 = 2;
+
+// The kind of a posit that is a float; that of NaR is 1, as above.
+pub const FLOAT: u32 = 0;
 
 // The orders.
 pub const LESS: u32 = 0;
@@ -92,6 +106,28 @@ pub fn of_decoding(x: Decoding) -> PositDecoding
             negative: negative,
             scale: scale,
             fraction: fraction,
+        },
+    }
+}
+
+pub fn of_floating(x: Floating) -> PositFloating
+    ensures { λ r. ⌜ r ≡ Spec.ofFloating x ⌝ }
+{
+    let number = x.number;
+    let place = x.place;
+    let floated = x.floated;
+    match floated {
+        Floated::Value(float) => PositFloating {
+            number: number,
+            place: place,
+            kind: FLOAT,
+            float: float,
+        },
+        Floated::Nar => PositFloating {
+            number: number,
+            place: place,
+            kind: NAR,
+            float: 0.0,
         },
     }
 }

@@ -2,22 +2,23 @@
 
 use crate::tally::{Difference, Tally};
 use jorumrain::{PositAnswer, PositComparison, PositDecoding};
+use second::float::{self, Floated};
 use second::posit::{self, Decoded};
 use second::refusal::Answer;
 use std::cmp::Ordering;
 use std::fmt::Debug;
 
 /// Counts an answer that both give; the difference names the call with its arguments in decimal.
-fn agree<T: PartialEq + Debug>(
+pub fn agree<T: PartialEq + Debug>(
     tally: &mut Tally,
     name: &'static str,
     arguments: &dyn Debug,
-    number: u32,
+    refusal: (u32, u32),
     proved: T,
     second: Option<T>,
 ) -> Result<(), Difference> {
     if second.as_ref() == Some(&proved) {
-        tally.count(name, number);
+        tally.count(name, refusal);
         return Ok(());
     }
     let second = second.map_or("too large".into(), |answer| format!("{answer:?}"));
@@ -29,7 +30,8 @@ pub fn decode(tally: &mut Tally, n: u32, es: u32, pattern: u32) -> Result<(), Di
     let proved = jorumrain::decode(n, es, pattern);
     let second = shape_of_decoding(posit::decode(n, es, pattern.into()));
     let arguments = (n, es, pattern);
-    agree(tally, "decode", &arguments, proved.number, proved, second)
+    let refusal = (proved.number, proved.place);
+    agree(tally, "decode", &arguments, refusal, proved, second)
 }
 
 pub fn encode(tally: &mut Tally, n: u32, es: u32, decoded: Decoded) -> Result<(), Difference> {
@@ -59,7 +61,8 @@ pub fn encode_as(
     let proved = jorumrain::encode(n, es, kind, negative, scale, fraction);
     let second = shape_of_posit(posit::encode(n, es, decoded));
     let arguments = (n, es, kind, negative, scale, fraction);
-    agree(tally, "encode", &arguments, proved.number, proved, second)
+    let refusal = (proved.number, proved.place);
+    agree(tally, "encode", &arguments, refusal, proved, second)
 }
 
 pub fn compare(
@@ -72,14 +75,50 @@ pub fn compare(
     let proved = jorumrain::compare(n, es, left, right);
     let second = shape_of_order(posit::compare(n, es, left.into(), right.into()));
     let arguments = (n, es, left, right);
-    agree(tally, "compare", &arguments, proved.number, proved, second)
+    let refusal = (proved.number, proved.place);
+    agree(tally, "compare", &arguments, refusal, proved, second)
 }
 
 pub fn negate(tally: &mut Tally, n: u32, es: u32, pattern: u32) -> Result<(), Difference> {
     let proved = jorumrain::negate(n, es, pattern);
     let second = shape_of_posit(posit::negate(n, es, pattern.into()));
     let arguments = (n, es, pattern);
-    agree(tally, "negate", &arguments, proved.number, proved, second)
+    let refusal = (proved.number, proved.place);
+    agree(tally, "negate", &arguments, refusal, proved, second)
+}
+
+pub fn operate(
+    tally: &mut Tally,
+    n: u32,
+    es: u32,
+    op: u8,
+    left: u32,
+    right: u32,
+) -> Result<(), Difference> {
+    let proved = jorumrain::operate(n, es, op, left, right);
+    let second = posit::operate(n, es, op.into(), left.into(), right.into());
+    let arguments = (n, es, op, left, right);
+    let refusal = (proved.number, proved.place);
+    let second = shape_of_posit(second);
+    agree(tally, "operate", &arguments, refusal, proved, second)
+}
+
+pub fn from_float(tally: &mut Tally, n: u32, es: u32, x: f64) -> Result<(), Difference> {
+    let proved = jorumrain::from_float(n, es, x);
+    let second = shape_of_posit(float::from_float(n, es, x));
+    let arguments = (n, es, x.to_bits());
+    let refusal = (proved.number, proved.place);
+    agree(tally, "from_float", &arguments, refusal, proved, second)
+}
+
+pub fn to_float(tally: &mut Tally, n: u32, es: u32, pattern: u32) -> Result<(), Difference> {
+    let proved = jorumrain::to_float(n, es, pattern);
+    let refusal = (proved.number, proved.place);
+    // Floats are compared by their bits, which tell +0.0 from -0.0.
+    let proved = (refusal, proved.kind, proved.float.to_bits());
+    let second = shape_of_float(float::to_float(n, es, pattern.into()));
+    let arguments = (n, es, pattern);
+    agree(tally, "to_float", &arguments, refusal, proved, second)
 }
 
 /// The shapes, or nothing where a number does not fit, which then differs from every answer.
@@ -121,4 +160,13 @@ fn shape_of_decoding(answer: Answer<Decoded>) -> Option<PositDecoding> {
         scale,
         fraction,
     })
+}
+
+fn shape_of_float(answer: Answer<Floated>) -> Option<((u32, u32), u32, u64)> {
+    let (kind, float) = match answer.value {
+        Floated::Value(float) => (jorumrain::FLOAT, float),
+        Floated::Nar => (jorumrain::NAR, 0.0),
+    };
+    let refusal = (answer.number, answer.place.try_into().ok()?);
+    Some((refusal, kind, float.to_bits()))
 }

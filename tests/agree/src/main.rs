@@ -4,30 +4,47 @@
 
 mod call;
 mod encodings;
+mod floats;
 mod formats;
+mod operations;
 mod pairs;
 mod patterns;
+mod picks;
 mod random;
+mod range_call;
+mod range_refusals;
+mod ranges;
 mod refusals;
 mod tally;
 
 use std::process::ExitCode;
+use std::time::Instant;
 use tally::Outcome;
 
+type Group = (&'static str, fn() -> Outcome);
+
 /// The groups in the order of their lines.
-const GROUPS: [(&str, fn() -> Outcome); 6] = [
+const GROUPS: [Group; 13] = [
     ("patterns", patterns::every),
     ("comparisons", pairs::all_and_random),
     ("middles", encodings::around_middles),
     ("boundaries", encodings::at_boundaries),
     ("encodings", encodings::random),
+    ("operations", operations::all_pairs),
+    ("operations, random", operations::random_pairs),
+    ("floats", floats::every),
+    ("floats of posits", floats::of_patterns),
     ("refusals", refusals::every),
+    ("ranges", ranges::all_pairs),
+    ("ranges, random", ranges::random_pairs),
+    ("refusals of ranges", range_refusals::every),
 ];
 
 fn main() -> ExitCode {
     for (name, group) in GROUPS {
+        let start = Instant::now();
         match group() {
-            Ok(tally) => println!("{name}: {tally}"),
+            Ok(tally) => println!("{name}: {tally} ({} s)", start.elapsed().as_secs()),
             Err(difference) => {
                 eprintln!("{name}: {difference}");
                 return ExitCode::FAILURE;

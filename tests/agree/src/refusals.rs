@@ -1,15 +1,17 @@
-//! Refusals: formats within and outside the limits, and patterns at and past 2^n in each operand.
+//! Refusals of the calls on posits: formats within and outside the limits, operation numbers above 3, and patterns at and past 2^n in each operand.
 
 use crate::call;
+use crate::formats;
 use crate::tally::{Difference, Outcome, Tally};
 use second::posit::Decoded;
 
+/// The operations, and numbers that are none.
+const OPERATIONS: [u8; 8] = [0, 1, 2, 3, 4, 5, 128, 255];
+
 pub fn every() -> Outcome {
     let mut tally = Tally::default();
-    for n in (0..=40).chain([64, 255, 256, 1 << 16, 1 << 31, u32::MAX]) {
-        for es in (0..=6).chain([31, 32, 255, 256, 1 << 31, u32::MAX]) {
-            calls(&mut tally, n, es)?;
-        }
+    for (n, es) in formats::around_limits() {
+        calls(&mut tally, n, es)?;
     }
     Ok(tally)
 }
@@ -18,11 +20,18 @@ fn calls(tally: &mut Tally, n: u32, es: u32) -> Result<(), Difference> {
     for decoded in [Decoded::Zero, Decoded::Nar, one()] {
         call::encode(tally, n, es, decoded)?;
     }
+    for x in [0.0, -1.5, f64::INFINITY, f64::NAN] {
+        call::from_float(tally, n, es, x)?;
+    }
     for left in patterns(n) {
+        call::to_float(tally, n, es, left)?;
         call::decode(tally, n, es, left)?;
         call::negate(tally, n, es, left)?;
         for right in patterns(n) {
             call::compare(tally, n, es, left, right)?;
+            for op in OPERATIONS {
+                call::operate(tally, n, es, op, left, right)?;
+            }
         }
     }
     Ok(())

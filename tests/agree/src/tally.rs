@@ -1,4 +1,4 @@
-//! The outcome of a group: how many answers of each number agreed, or the first difference.
+//! The outcome of a group: how many answers of each number and place agreed, or the first difference.
 
 use std::collections::BTreeMap;
 use std::fmt;
@@ -14,17 +14,17 @@ impl fmt::Display for Difference {
 
 pub type Outcome = Result<Tally, Difference>;
 
-/// How many calls agreed, by call and by the number that they came back with.
+/// How many calls agreed, by call and by the number and place that they came back with.
 #[derive(Default)]
 pub struct Tally {
     calls: BTreeMap<&'static str, u64>,
-    numbers: BTreeMap<u32, u64>,
+    refusals: BTreeMap<(u32, u32), u64>,
 }
 
 impl Tally {
-    pub fn count(&mut self, call: &'static str, number: u32) {
+    pub fn count(&mut self, call: &'static str, refusal: (u32, u32)) {
         *self.calls.entry(call).or_default() += 1;
-        *self.numbers.entry(number).or_default() += 1;
+        *self.refusals.entry(refusal).or_default() += 1;
     }
 }
 
@@ -35,8 +35,8 @@ impl fmt::Display for Tally {
         for (call, count) in &self.calls {
             write!(f, ", {call} {count}")?;
         }
-        for (number, count) in &self.numbers {
-            write!(f, "; number {number}: {count}")?;
+        for ((number, place), count) in &self.refusals {
+            write!(f, "; number {number}, place {place}: {count}")?;
         }
         Ok(())
     }

@@ -1,0 +1,21 @@
+-- What the exported calls on ranges say: there is an answer that meets the range call's own contract, and the result is its plain shape.
+use mathlib.Core.Path.{_≡_}
+use Prim.Native.Nat.{ℕ}
+use Rattle.range.specs.declared.answer.Reply.{Reply}
+use Rattle.range.specs.declared.answer.WordAnswer.{WordAnswer}
+use Rattle.range.specs.Calls.{NegationOf, ComparisonOf}
+use Rattle.link.specs.declared.range_shape.RangeAnswer.{RangeAnswer}
+use Rattle.link.specs.declared.range_shape.RangeReply.{RangeReply}
+use Rattle.link.specs.RangeShapes.{ofWordAnswer, ofReply}
+
+-- what `jorumrain_range_negate` gives
+pub record NegatesAs (n es a : ℕ) (r : RangeAnswer) : Type 0 where
+  pub answer : WordAnswer
+  pub meets : NegationOf n es a answer
+  pub shape : r ≡ ofWordAnswer answer
+
+-- what `jorumrain_range_inside`, `jorumrain_range_meets` and `jorumrain_range_below` give, each for its own P
+pub record ComparesAs (P : ℕ → ℕ → ℕ → ℕ → Type 0) (n es a b : ℕ) (r : RangeReply) : Type 0 where
+  pub answer : Reply
+  pub meets : ComparisonOf P n es a b answer
+  pub shape : r ≡ ofReply answer

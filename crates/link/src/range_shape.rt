@@ -1,0 +1,41 @@
+// The structs that the exported calls on ranges give, and those calls' answers turned into them.
+ghost use mathlib.Core.Path.{_≡_};
+ghost use Rattle.link.specs.RangeShapes as Spec;
+use range::answer::Reply;
+use range::answer::WordAnswer;
+
+// A refusal's number and place, and a range word.
+#[repr(C)]
+pub struct RangeAnswer {
+    pub number: u32,
+    pub place: u32,
+    pub word: u64,
+}
+
+// A refusal's number and place, and a yes or no.
+#[repr(C)]
+pub struct RangeReply {
+    pub number: u32,
+    pub place: u32,
+    pub yes: bool,
+}
+
+pub fn of_word_answer(x: WordAnswer) -> RangeAnswer
+    ensures { λ r. ⌜ r ≡ Spec.ofWordAnswer x ⌝ }
+{
+    RangeAnswer {
+        number: x.number,
+        place: x.place,
+        word: x.word,
+    }
+}
+
+pub fn of_reply(x: Reply) -> RangeReply
+    ensures { λ r. ⌜ r ≡ Spec.ofReply x ⌝ }
+{
+    RangeReply {
+        number: x.number,
+        place: x.place,
+        yes: x.yes,
+    }
+}

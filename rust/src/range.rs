@@ -1,0 +1,37 @@
+//! The proved calls on ranges.
+
+/// Number, place and a range word.
+#[repr(C)]
+#[derive(Clone, Copy, Debug, PartialEq, Eq)]
+pub struct RangeAnswer {
+    pub number: u32,
+    pub place: u32,
+    pub word: u64,
+}
+
+/// Number, place and a yes or no.
+#[repr(C)]
+#[derive(Clone, Copy, Debug, PartialEq, Eq)]
+pub struct RangeReply {
+    pub number: u32,
+    pub place: u32,
+    pub yes: bool,
+}
+
+// The declarations are those of crates/link, where no call asks anything of its caller.
+unsafe extern "C" {
+    #[link_name = "jorumrain_range_negate"]
+    pub safe fn negate(n: u32, es: u32, word: u64) -> RangeAnswer;
+
+    /// Whether each member of the left range is in the right one.
+    #[link_name = "jorumrain_range_inside"]
+    pub safe fn inside(n: u32, es: u32, left: u64, right: u64) -> RangeReply;
+
+    /// Whether some member is in both.
+    #[link_name = "jorumrain_range_meets"]
+    pub safe fn meets(n: u32, es: u32, left: u64, right: u64) -> RangeReply;
+
+    /// Whether each member of the left range is less than each of the right one.
+    #[link_name = "jorumrain_range_below"]
+    pub safe fn below(n: u32, es: u32, left: u64, right: u64) -> RangeReply;
+}

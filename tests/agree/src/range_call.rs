@@ -1,0 +1,58 @@
+//! One call on ranges on both programs: the second program's answer in the static library's shape, and both compared.
+
+use crate::call::agree;
+use crate::tally::{Difference, Tally};
+use jorumrain::range::{self as proved, RangeAnswer, RangeReply};
+use second::range;
+use second::refusal::Answer;
+
+pub fn negate(tally: &mut Tally, n: u32, es: u32, word: u64) -> Result<(), Difference> {
+    let proved = proved::negate(n, es, word);
+    let second = shape_of_word(range::negate(n, es, word));
+    let refusal = (proved.number, proved.place);
+    agree(tally, "negate", &(n, es, word), refusal, proved, second)
+}
+
+/// The three comparisons of two words.
+pub fn compare(tally: &mut Tally, n: u32, es: u32, a: u64, b: u64) -> Result<(), Difference> {
+    let answers = [
+        (
+            "inside",
+            proved::inside(n, es, a, b),
+            range::inside(n, es, a, b),
+        ),
+        (
+            "meets",
+            proved::meets(n, es, a, b),
+            range::meets(n, es, a, b),
+        ),
+        (
+            "below",
+            proved::below(n, es, a, b),
+            range::below(n, es, a, b),
+        ),
+    ];
+    for (name, proved, second) in answers {
+        let refusal = (proved.number, proved.place);
+        let second = shape_of_reply(second);
+        agree(tally, name, &(n, es, a, b), refusal, proved, second)?;
+    }
+    Ok(())
+}
+
+/// The shapes, or nothing where a number does not fit, which then differs from every answer.
+fn shape_of_word(answer: Answer<u64>) -> Option<RangeAnswer> {
+    Some(RangeAnswer {
+        number: answer.number,
+        place: answer.place.try_into().ok()?,
+        word: answer.value,
+    })
+}
+
+fn shape_of_reply(answer: Answer<bool>) -> Option<RangeReply> {
+    Some(RangeReply {
+        number: answer.number,
+        place: answer.place.try_into().ok()?,
+        yes: answer.value,
+    })
+}
