@@ -23,3 +23,17 @@ pub mod Empty
 pub mod Sets
 pub mod Sheets
 pub mod Examples
+pub mod CellFrom
+pub mod ZeroCell
+pub mod Edges
+pub mod Reading
+pub mod Parts
+pub mod SignedCells
+pub mod ResultCell
+pub mod ReachedCells
+pub mod ByStages
+pub mod SumCells
+pub mod SumRange
+pub mod Difference
+pub mod HasZero
+pub mod Operations

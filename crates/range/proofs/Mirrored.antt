@@ -32,7 +32,7 @@ pub mirrored-none : (n : ℕ) (s : Span) → s .hi < s .lo → mirrored n s ≡ 
 mirrored-none n s l = rw (lt-ltb (s .hi) (s .lo) l)
 
 module _ (n es : ℕ) (wide : 3 ≤ n) where
-  odd : (k : ℕ) → k < count n → Same fractions (negᶠ (valueAt n es k)) (valueAt n es (count n - suc k))
+  pub odd : (k : ℕ) → k < count n → Same fractions (negᶠ (valueAt n es k)) (valueAt n es (count n - suc k))
   odd k h = rw (mirrored-value n es (some-bit n wide) h) (fractions .reflexive (negᶠ (valueAt n es k)), fractions .reflexive (negᶠ (valueAt n es k)))
 
   negated-cells : {S : Fraction → Type 0} {u : Extent Fraction} → Spans fractions S u → reach n es wide (negate signed-fractions u) ≡ mirrored n (reach n es wide u)

@@ -20,7 +20,7 @@ use Rattle.range.specs.Calls.{SaysVerdict, verdictOfWord, Says, Comparis
 -- ---- lists of tests
 -- a refusal is found again where more tests follow
 module _ (t : Test) (ts us : List Test) (rest : firstHit ts .number ≢ 0 → firstHit us ≡ firstHit ts) where
-  refusal-stays : firstHit (t ∷ ts) .number ≢ 0 → firstHit (t ∷ us) ≡ firstHit (t ∷ ts)
+  pub refusal-stays : firstHit (t ∷ ts) .number ≢ 0 → firstHit (t ∷ us) ≡ firstHit (t ∷ ts)
   refusal-stays d = go (t .hit) refl
     where
       go : (b : Bool) → t .hit ≡ b → firstHit (t ∷ us) ≡ firstHit (t ∷ ts)
@@ -28,7 +28,7 @@ module _ (t : Test) (ts us : List Test) (rest : firstHit ts .number ≢ 0 → fi
       go false e = passes t us e ∙ rest (λ z. d (ap (λ (v : Verdict). v .number) (passes t ts e) ∙ z)) ∙ sym (passes t ts e)
 
 -- where the call is done, a test that refuses has not hit
-passed : (t : Test) (ts : List Test) {k : ℕ} → t .gives .number ≡ suc k → firstHit (t ∷ ts) .number ≡ 0 → (t .hit ≡ false) × (firstHit ts .number ≡ 0)
+pub passed : (t : Test) (ts : List Test) {k : ℕ} → t .gives .number ≡ suc k → firstHit (t ∷ ts) .number ≡ 0 → (t .hit ≡ false) × (firstHit ts .number ≡ 0)
 passed t ts {k} g z = go (t .hit) refl
   where
     go : (b : Bool) → t .hit ≡ b → (t .hit ≡ false) × (firstHit ts .number ≡ 0)

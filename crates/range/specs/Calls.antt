@@ -49,3 +49,10 @@ doneReply reply = record { number = 0; place = 0; yes = reply }
 
 abbrev pub refusedReply : ℕ → ℕ → Reply
 refusedReply number place = record { number = number; place = place; yes = false }
+
+-- a word answered, and one refused
+abbrev pub doneWord : ℕ → WordAnswer
+doneWord word = record { number = 0; place = 0; word = word }
+
+abbrev pub refusedWord : ℕ → ℕ → WordAnswer
+refusedWord number place = record { number = number; place = place; word = 0 }

@@ -6,3 +6,5 @@ pub mod Calls
 pub mod Numbered
 pub mod Spans
 pub mod Computed
+pub mod Cells
+pub mod Signs

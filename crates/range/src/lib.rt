@@ -3,3 +3,4 @@ pub mod answer;
 pub mod compare;
 pub mod inner;
 pub mod negate;
+pub mod operate;

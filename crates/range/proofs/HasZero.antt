@@ -1,0 +1,42 @@
+-- 0 is a member of a real range exactly where its cell, the middle one, is one of the range's cells.
+use mathlib.Core.Path.{_≡_, refl, sym}
+use mathlib.Core.Bool.{Bool, true, false}
+use mathlib.Core.Logic.{_↔_}
+use Prim.Native.Nat.{ℕ, _-_, _^_, _≤_, _<_}
+use native.Mathlib.Omega.{arith}
+use lib.IntN.{pos}
+use lib.Dec.{leb}
+use borrow.Author.Tests.{le-leb, leb-true}
+use Rattle.exact.specs.Fraction.{whole}
+use Rattle.exact.proofs.Order.{≈-refl}
+use Rattle.posit.specs.Format.{Format}
+use Rattle.posit.proofs.Exactly.{never}
+use Rattle.range.specs.declared.inner.span.Span.{Span}
+use Rattle.range.specs.Member.{Real, Member, isMember}
+use Rattle.range.specs.Spans.{cellsOf}
+use Rattle.range.proofs.Members.{member-cells, is-member}
+use Rattle.range.proofs.Computed.{cell-computed}
+use Rattle.range.proofs.SumCells.{cell-of-zero}
+
+by-test : {P Q : Type 0} (b : Bool) → (b ≡ true) ↔ P → P ↔ Q → (c : Bool) → (c ≡ true → Q) → (Q → c ≡ true) → c ≡ b
+by-test true i j true f g = refl
+by-test true i j false f g = g (j .0 (i .0 refl))
+by-test false i j true f g = sym (i .1 (j .1 (f refl)))
+by-test false i j false f g = refl
+
+module _ {n es b : ℕ} (f : Format n es) (r : Real n b) {x : Span} (e : x ≡ cellsOf n b) {all : ℕ} (h : all ≡ 2 ^ n) where
+  zero-cells : Member n es b (whole (pos 0)) ↔ ((x .lo ≤ all - 1) × (all - 1 ≤ x .hi))
+  zero-cells =
+      let z = cell-of-zero n es (f .wide-enough) {z = whole (pos 0)} (≈-refl (whole (pos 0))) in
+      let c = cell-computed n es (f .wide-enough) (whole (pos 0)) in
+      let (i, j) = member-cells n es (f .wide-enough) r (whole (pos 0)) in
+      rw e (λ m. let k = i m in (omega (arith, k, z, c), omega (arith, k, z, c)), λ k. j (omega (arith, k, z, c), omega (arith, k, z, c)))
+
+  pub zero-before-end : x .lo ≤ all - 1 → leb (all - 1) (x .hi) ≡ isMember n es b (whole (pos 0))
+  zero-before-end l =
+      by-test (isMember n es b (whole (pos 0))) (is-member n es b (whole (pos 0))) zero-cells (leb (all - 1) (x .hi))
+      (λ t. (l, leb-true (all - 1) (x .hi) t)) (λ q. le-leb (all - 1) (x .hi) (q .1))
+
+  pub zero-before-start : all - 1 < x .lo → false ≡ isMember n es b (whole (pos 0))
+  zero-before-start l =
+      by-test (isMember n es b (whole (pos 0))) (is-member n es b (whole (pos 0))) zero-cells false (λ t. never t) (λ q. absurd (omega arith))

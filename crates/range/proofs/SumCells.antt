@@ -1,0 +1,169 @@
+-- The outermost cells of all sums: beside no bound there is none, and the sum of two bounds is the sum of the posits they stand on, closed where both
+-- are; its cell is that of the exact sum.
+use mathlib.Core.Path.{_≡_, refl, sym, ap, _∙_, subst}
+use mathlib.Core.Bool.{Bool}
+use mathlib.Core.Logic.{_⊎_, inl, inr}
+use Prim.Native.Nat.{ℕ, zero, suc, _+_, _-_, _*_, _/_, _%_, _^_, _≤_, _<_}
+use native.Mathlib.Omega.{arith}
+use lib.IntN.{ℤ, pos}
+use mir.Syntax.{w32}
+use mir.Val.{toZ, ofZ}
+use Rattle.exact.specs.Fraction.{Fraction, _≈_, whole, _+ᶠ_}
+use Rattle.exact.proofs.Order.{≈-refl, ≈-sym, ≈-trans, _⨾_}
+use Rattle.exact.proofs.Sum.{+ᶠ-cong, +ᶠ-idl, +ᶠ-idr}
+use Rattle.exact.proofs.Powers.{parity}
+use Rattle.bound.specs.Bound.{Bound, none, closed-at, open-at, map-bound}
+use Rattle.bound.specs.Operation.{both}
+use Rattle.bound.specs.Cell.{start-of, end-of}
+use Rattle.bound.specs.End.{read-start, read-end}
+use Rattle.posit.specs.declared.decoded.Decoded.{Decoded}
+use Rattle.posit.specs.declared.decoded.Decoded.the-variants.{Finite}
+use Rattle.posit.specs.declared.inner.magnitude.Magnitude.{Magnitude}
+use Rattle.posit.specs.declared.inner.sum.Sum.{Sum}
+use Rattle.posit.specs.declared.inner.sum.Sum.the-variants.{Nothing, Something}
+use Rattle.posit.specs.Format as Spec
+use Rattle.posit.specs.Value.{value}
+use Rattle.posit.specs.Decoding.{finiteValue}
+use Rattle.posit.specs.Magnitudes.{withSignᶠ, Unpacks, Knows, IsSum}
+use Rattle.posit.proofs.Patterns.{some-bit, nar-large, small-finite}
+use Rattle.posit.proofs.SmallScale.{kept}
+use Rattle.posit.proofs.Operated.{zero-value, is-finite, is-small}
+use Rattle.posit.proofs.Summed.{sign-twice}
+use Rattle.posit.proofs.Mirror.{power-wider}
+use Rattle.range.specs.Numbered.{count, patternAt, numberOf, valueAt}
+use Rattle.range.specs.Spans.{topCell}
+use Rattle.range.specs.Computed.{cellOf}
+use Rattle.range.specs.Cells.{CellEach, sumStart, sumEnd}
+use Rattle.range.proofs.Grid.{half, nar-positive, number-below, pattern-finite}
+use Rattle.range.proofs.Places.{top-cell}
+use Rattle.range.proofs.Tiles.{half-small}
+use Rattle.range.proofs.CellFrom.{cell-bounded, cell-same, cell-of-posit}
+
+-- ---- the cell of an exact sum
+module _ (n es : ℕ) (wide : 3 ≤ n) where
+  pub cell-of-zero : {z : Fraction} → z ≈ whole (pos 0) → cellOf n es z ≡ 2 ^ n - 1
+  cell-of-zero e =
+      cell-of-posit n es wide (small-finite n wide {p = 0} (omega arith)) (≈-trans e (≈-sym (zero-value n es refl)))
+      ∙ omega (arith, number-below n (some-bit n wide) {p = 0} (nar-positive n (some-bit n wide)), half n (some-bit n wide), nar-large n wide)
+
+  module _ (z : Fraction) {r : Sum} (k : IsSum z r) where
+    pub nothing-cell : {all : ℕ} → r ≡ Nothing → all ≡ 2 ^ n → all - 1 ≡ cellOf n es z
+    nothing-cell e h = omega (arith, cell-of-zero (subst (λ r. IsSum z r) e k))
+
+    pub something-cell : {b : Bool} {m : Magnitude} {c : ℕ} → r ≡ Something b m → CellEach n es b m c → c ≡ cellOf n es z
+    something-cell {b} {m} e each =
+        let known : Knows (withSignᶠ b z) m = subst (λ r. IsSum z r) e k in
+        each (withSignᶠ b z) (known .within) ∙ cell-same n es wide (sign-twice b z)
+
+  -- ---- with a 0 the sum is the other posit
+  pub zero-left : {p q r : ℕ} → Spec.Finite n q → p ≡ 0 → r ≡ 2 * numberOf n q + 1 → r ≡ cellOf n es (value n es p +ᶠ value n es q)
+  zero-left {q = q} f e h = h ∙ sym (cell-of-posit n es wide f (+ᶠ-cong (zero-value n es e) (≈-refl (value n es q)) ⨾ +ᶠ-idl (value n es q)))
+
+  pub zero-right : {p q r : ℕ} → Spec.Finite n p → q ≡ 0 → r ≡ 2 * numberOf n p + 1 → r ≡ cellOf n es (value n es p +ᶠ value n es q)
+  zero-right {p} f e h = h ∙ sym (cell-of-posit n es wide f (+ᶠ-cong (≈-refl (value n es p)) (zero-value n es e) ⨾ +ᶠ-idr (value n es p)))
+
+  pub numbers-cell :
+      {p q r : ℕ} {d e : Decoded} {a b : Bool} {s t : ℤ} {g h : ℕ} → Unpacks n es p d → Unpacks n es q e → d ≡ Finite a s g → e ≡ Finite b t h
+      → r ≡ cellOf n es (finiteValue a (toZ w32 (ofZ w32 s)) g +ᶠ finiteValue b (toZ w32 (ofZ w32 t)) h) → r ≡ cellOf n es (value n es p +ᶠ value n es q)
+  numbers-cell u v i j k =
+      (rw (kept (is-small u i), kept (is-small v j)) at k) ∙ cell-same n es wide (+ᶠ-cong (is-finite u i .means) (is-finite v j .means))
+
+  pub cell-small : (z : Fraction) {c : ℕ} → n ≤ 16 → c ≡ cellOf n es z → c ≤ 131070
+  cell-small z h e = omega (arith, cell-bounded n es wide z, power-wider n, half-small h)
+
+-- ---- a cell read as an end
+pub read-odd : (c : ℕ) → c % 2 ≡ 1 → read-start c ≡ closed-at ((c - 1) / 2)
+read-odd zero e = absurd (omega arith)
+read-odd (suc c) e = let d : c % 2 ≡ 0 = omega arith in rw (d, read-start) (ap (λ (k : ℕ). closed-at (k / 2)) {x = c} {y = suc c - 1} (omega arith))
+
+pub read-even : (c : ℕ) → 0 < c → c % 2 ≡ 0 → read-start c ≡ open-at ((c - 1) / 2)
+read-even zero h e = absurd (omega arith)
+read-even (suc c) h e = let d : c % 2 ≡ 1 = omega arith in rw (d, read-start) (ap (λ (k : ℕ). open-at (k / 2)) {x = c} {y = suc c - 1} (omega arith))
+
+pub read-top : (k : ℕ) → read-end k (2 * k) ≡ none
+read-top k = let d : 2 * k - 2 * k ≡ 0 = omega arith in rw (d, read-end) refl
+
+pub read-end-odd : (k c : ℕ) → c < 2 * k → c % 2 ≡ 1 → read-end k c ≡ closed-at (c / 2)
+read-end-odd k c h e = let d : 2 * k - c ≡ suc (2 * k - suc c) = omega arith in rw (d, e, read-end) refl
+
+pub read-end-even : (k c : ℕ) → c < 2 * k → c % 2 ≡ 0 → read-end k c ≡ open-at (c / 2)
+read-end-even k c h e = let d : 2 * k - c ≡ suc (2 * k - suc c) = omega arith in rw (d, e, read-end) refl
+
+both-none : {A B C : Type 0} (f : A → B → C) (b : Bound A) → both f b none ≡ none
+unfolding both
+both-none f none = refl
+both-none f (closed-at a) = refl
+both-none f (open-at a) = refl
+
+module _ (n es : ℕ) (wide : 3 ≤ n) where
+  -- ---- bounds
+  pub start-bounded : (b : Bound Fraction) → start-of (map-bound (cellOf n es) b) ≤ topCell n
+  start-bounded none = omega arith
+  start-bounded (closed-at x) = cell-bounded n es wide x
+  start-bounded (open-at x) = omega (arith, cell-bounded n es wide x, top-cell n wide)
+
+  pub end-bounded : (b : Bound Fraction) → end-of (count n) (map-bound (cellOf n es) b) ≤ topCell n
+  end-bounded none = omega (arith, top-cell n wide)
+  end-bounded (closed-at x) = cell-bounded n es wide x
+  end-bounded (open-at x) = omega (arith, cell-bounded n es wide x)
+
+  -- ---- the first cell
+  pub start-left : {x : ℕ} (y : ℕ) → x ≡ 0 → 0 ≡ sumStart n es x y
+  unfolding both
+  start-left y e = rw e refl
+
+  pub start-right : (x : ℕ) {y : ℕ} → y ≡ 0 → 0 ≡ sumStart n es x y
+  start-right x e = rw (e, both-none _+ᶠ_ (map-bound (valueAt n es) (read-start x))) refl
+
+  pub start-finite : {c p : ℕ} → (c ≡ 0 → ⊥) → c ≤ topCell n → p ≡ patternAt n ((c - 1) / 2) → Spec.Finite n p
+  start-finite {c} h l e = rw e (pattern-finite n (some-bit n wide) {k = (c - 1) / 2} (omega (arith, top-cell n wide)))
+
+  module _ (x y : ℕ) {p q : ℕ} (i : p ≡ patternAt n ((x - 1) / 2)) (j : q ≡ patternAt n ((y - 1) / 2)) {c : ℕ} (e : c ≡ cellOf n es (value n es p +ᶠ value n es q)) where
+    here : c ≡ cellOf n es (valueAt n es ((x - 1) / 2) +ᶠ valueAt n es ((y - 1) / 2))
+    here = rw (i, j) at e
+
+    pub start-closed : x % 2 + y % 2 ≡ 2 → c ≡ sumStart n es x y
+    unfolding both
+    start-closed h = rw (read-odd x (omega arith), read-odd y (omega arith)) here
+
+    pub start-open : (x ≡ 0 → ⊥) → (y ≡ 0 → ⊥) → (x % 2 + y % 2 ≡ 2 → ⊥) → 2 * ((c + 1) / 2) ≡ sumStart n es x y
+    unfolding both
+    start-open k l h = by (parity x) (parity y)
+      where
+        by : (x % 2 ≡ 0) ⊎ (x % 2 ≡ 1) → (y % 2 ≡ 0) ⊎ (y % 2 ≡ 1) → 2 * ((c + 1) / 2) ≡ sumStart n es x y
+        by (inl s) (inl t) = rw (read-even x (omega arith) s, read-even y (omega arith) t, here) refl
+        by (inl s) (inr t) = rw (read-even x (omega arith) s, read-odd y t, here) refl
+        by (inr s) (inl t) = rw (read-odd x s, read-even y (omega arith) t, here) refl
+        by (inr s) (inr t) = absurd (h (omega arith))
+
+  -- ---- the last cell
+  pub end-left : {x top : ℕ} (y : ℕ) → top ≡ topCell n → x ≡ top → top ≡ sumEnd n es x y
+  unfolding both
+  end-left y h e = rw (e, h, top-cell n wide, read-top (count n)) refl
+
+  pub end-right : (x : ℕ) {y top : ℕ} → top ≡ topCell n → y ≡ top → top ≡ sumEnd n es x y
+  end-right x h e = rw (e, h, top-cell n wide, read-top (count n), both-none _+ᶠ_ (map-bound (valueAt n es) (read-end (count n) x))) refl
+
+  pub end-finite : {c p top : ℕ} → top ≡ topCell n → (c ≡ top → ⊥) → c ≤ topCell n → p ≡ patternAt n (c / 2) → Spec.Finite n p
+  end-finite {c} t h l e = rw e (pattern-finite n (some-bit n wide) {k = c / 2} (omega (arith, top-cell n wide)))
+
+  module _ (x y : ℕ) {p q : ℕ} (u : x < topCell n) (v : y < topCell n) (i : p ≡ patternAt n (x / 2)) (j : q ≡ patternAt n (y / 2)) {c : ℕ} (e : c ≡ cellOf n es (value n es p +ᶠ value n es q)) where
+    there : c ≡ cellOf n es (valueAt n es (x / 2) +ᶠ valueAt n es (y / 2))
+    there = rw (i, j) at e
+
+    under : {z : ℕ} → z < topCell n → z < 2 * count n
+    under h = omega (arith, top-cell n wide)
+
+    pub end-closed : x % 2 + y % 2 ≡ 2 → c ≡ sumEnd n es x y
+    unfolding both
+    end-closed h = rw (read-end-odd (count n) x (under u) (omega arith), read-end-odd (count n) y (under v) (omega arith)) there
+
+    pub end-open : (x % 2 + y % 2 ≡ 2 → ⊥) → 2 * (c / 2) ≡ sumEnd n es x y
+    unfolding both
+    end-open h = by (parity x) (parity y)
+      where
+        by : (x % 2 ≡ 0) ⊎ (x % 2 ≡ 1) → (y % 2 ≡ 0) ⊎ (y % 2 ≡ 1) → 2 * (c / 2) ≡ sumEnd n es x y
+        by (inl s) (inl t) = rw (read-end-even (count n) x (under u) s, read-end-even (count n) y (under v) t, there) refl
+        by (inl s) (inr t) = rw (read-end-even (count n) x (under u) s, read-end-odd (count n) y (under v) t, there) refl
+        by (inr s) (inl t) = rw (read-end-odd (count n) x (under u) s, read-end-even (count n) y (under v) t, there) refl
+        by (inr s) (inr t) = absurd (h (omega arith))

@@ -1,0 +1,57 @@
+-- `range::inner::add::sum_end` meets its contract: its tests are whether the bounds at the two cells are there and closed (`SumCells`).
+use native.Mathlib.Omega.{arith}
+use Rattle.range.proofs.SumCells.{end-left, end-right, end-finite, end-closed, end-open}
+use borrow.Author.Needs.{needs}
+use Rattle.range.proofs.inner.add.sum_end.Statement.{statement}
+use Rattle.range.proofs.inner.add.sum_end.Tie as tie
+
+top-cell-requires : tie.Need-top-cell-requires
+top-cell-requires c κs = search needs
+
+returns : tie.Need-returns
+returns c = end-left _ (c .before .before .args .es) (c .before .before .pre .0 .wide-enough) (c .before .before .args .y) (c .before .top-cell .ensures) (c .if1 .taken)
+
+returns-2 : tie.Need-returns-2
+returns-2 c = end-right _ (c .before .before .before .args .es) (c .before .before .before .pre .0 .wide-enough) (c .before .before .before .args .x) (c .before .before .top-cell .ensures) (c .if2 .taken)
+
+end-posit-requires : tie.Need-end-posit-requires
+end-posit-requires c κs = search needs
+
+end-posit-requires-2 : tie.Need-end-posit-requires-2
+end-posit-requires-2 c κs = search needs
+
+sum-cell-requires : tie.Need-sum-cell-requires
+sum-cell-requires c κs = (
+  c .before .before .before .before .before .pre .0,
+  end-finite _ (c .before .before .before .before .before .args .es) (c .before .before .before .before .before .pre .0 .wide-enough) (c .before .before .before .before .top-cell .ensures) (c .before .before .before .if1 .left) (c .before .before .before .before .before .pre .1) (c .before .end-posit .ensures),
+  end-finite _ (c .before .before .before .before .before .args .es) (c .before .before .before .before .before .pre .0 .wide-enough) (c .before .before .before .before .top-cell .ensures) (c .before .before .if2 .left) (c .before .before .before .before .before .pre .2) (c .end-posit2 .ensures),
+)
+
+add-if3 : tie.Need-add-if3
+add-if3 c = search needs
+
+returns-3 : tie.Need-returns-3
+returns-3 c = end-closed _ _ (c .before .before .before .before .before .before .before .pre .0 .wide-enough) (c .before .before .before .before .before .before .before .args .x) (c .before .before .before .before .before .before .before .args .y) (omega arith) (omega arith) (c .before .before .before .end-posit .ensures) (c .before .before .end-posit2 .ensures) (c .before .sum-cell .ensures)
+    (c .if3 .taken)
+
+mul-result : tie.Need-mul-result
+mul-result c = search needs
+
+returns-4 : tie.Need-returns-4
+returns-4 c = end-open _ _ (c .before .before .before .before .before .before .before .pre .0 .wide-enough) (c .before .before .before .before .before .before .before .args .x) (c .before .before .before .before .before .before .before .args .y) (omega arith) (omega arith) (c .before .before .before .end-posit .ensures) (c .before .before .end-posit2 .ensures) (c .before .sum-cell .ensures)
+    (c .if3 .left)
+
+pub sum-end-spec : {M : Type 1} → statement M
+sum-end-spec =
+    tie.close
+    (tie.spec
+    top-cell-requires
+    returns
+    returns-2
+    end-posit-requires
+    end-posit-requires-2
+    sum-cell-requires
+    add-if3
+    returns-3
+    mul-result
+    returns-4)

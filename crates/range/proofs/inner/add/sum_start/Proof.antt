@@ -1,0 +1,57 @@
+-- `range::inner::add::sum_start` meets its contract: its tests are whether the bounds at the two cells are there and closed (`SumCells`).
+use native.Mathlib.Omega.{arith}
+use Rattle.range.proofs.SumCells.{start-left, start-right, start-finite, start-closed, start-open, cell-small}
+use borrow.Author.Needs.{needs}
+use Rattle.range.proofs.inner.add.sum_start.Statement.{statement}
+use Rattle.range.proofs.inner.add.sum_start.Tie as tie
+
+returns : tie.Need-returns
+returns c = start-left _ (c .before .args .es) (c .before .pre .0 .wide-enough) (c .before .args .y) (c .if1 .taken)
+
+returns-2 : tie.Need-returns-2
+returns-2 c = start-right _ (c .before .before .args .es) (c .before .before .pre .0 .wide-enough) (c .before .before .args .x) (c .if2 .taken)
+
+start-posit-requires : tie.Need-start-posit-requires
+start-posit-requires c κs = search needs
+
+start-posit-requires-2 : tie.Need-start-posit-requires-2
+start-posit-requires-2 c κs = search needs
+
+sum-cell-requires : tie.Need-sum-cell-requires
+sum-cell-requires c κs = (
+  c .before .before .before .before .pre .0,
+  start-finite _ (c .before .before .before .before .args .es) (c .before .before .before .before .pre .0 .wide-enough) (c .before .before .before .if1 .left) (c .before .before .before .before .pre .1) (c .before .start-posit .ensures),
+  start-finite _ (c .before .before .before .before .args .es) (c .before .before .before .before .pre .0 .wide-enough) (c .before .before .if2 .left) (c .before .before .before .before .pre .2) (c .start-posit2 .ensures),
+)
+
+add-if3 : tie.Need-add-if3
+add-if3 c = search needs
+
+returns-3 : tie.Need-returns-3
+returns-3 c = start-closed _ _ (c .before .before .before .before .before .before .pre .0 .wide-enough) (c .before .before .before .before .before .before .args .x) (c .before .before .before .before .before .before .args .y) (c .before .before .before .start-posit .ensures) (c .before .before .start-posit2 .ensures) (c .before .sum-cell .ensures)
+    (c .if3 .taken)
+
+add-result : tie.Need-add-result
+add-result c = omega (arith, cell-small _ _ (c .before .before .before .before .before .before .pre .0 .wide-enough) _ (c .before .before .before .before .before .before .pre .0 .not-too-wide) (c .before .sum-cell .ensures))
+
+mul-result : tie.Need-mul-result
+mul-result c = omega (arith, cell-small _ _ (c .before .before .before .before .before .before .pre .0 .wide-enough) _ (c .before .before .before .before .before .before .pre .0 .not-too-wide) (c .before .sum-cell .ensures))
+
+returns-4 : tie.Need-returns-4
+returns-4 c = start-open _ _ (c .before .before .before .before .before .before .pre .0 .wide-enough) (c .before .before .before .before .before .before .args .x) (c .before .before .before .before .before .before .args .y) (c .before .before .before .start-posit .ensures) (c .before .before .start-posit2 .ensures) (c .before .sum-cell .ensures)
+    (c .before .before .before .before .before .if1 .left) (c .before .before .before .before .if2 .left) (c .if3 .left)
+
+pub sum-start-spec : {M : Type 1} → statement M
+sum-start-spec =
+    tie.close
+    (tie.spec
+    returns
+    returns-2
+    start-posit-requires
+    start-posit-requires-2
+    sum-cell-requires
+    add-if3
+    returns-3
+    add-result
+    mul-result
+    returns-4)

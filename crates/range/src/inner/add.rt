@@ -1,0 +1,138 @@
+// The sum and the difference of two real ranges.
+ghost use mathlib.Core.Path.{_≡_};
+ghost use mathlib.Core.Bool.{Bool};
+ghost use Prim.Native.Nat.{_+_, _*_, _≤_, _<_, _^_};
+ghost use Rattle.exact.specs.Fraction.{_+ᶠ_};
+ghost use Rattle.posit.specs.Format.{Format, Finite};
+ghost use Rattle.posit.specs.Value.{value};
+ghost use Rattle.posit.specs.Decoding.{finiteValue};
+ghost use Rattle.posit.specs.Magnitudes.{SmallForm};
+ghost use Rattle.range.specs.Numbered.{numberOf};
+ghost use Rattle.range.specs.Member.{Real};
+ghost use Rattle.range.specs.Spans.{topCell};
+ghost use Rattle.range.specs.Computed.{cellOf, answerOf};
+ghost use Rattle.range.specs.Cells.{sumStart, sumEnd};
+use super::cell::cell_of;
+use super::cell::end_posit;
+use super::cell::start_posit;
+use super::span::Span;
+use super::span::joined;
+use super::span::top_cell;
+use super::span::word_of;
+use super::turn::turned;
+use super::word::cells_of;
+use posit::decoded::Decoded;
+use posit::inner::power::power32;
+use posit::inner::sum::Sum;
+use posit::inner::sum::exact_sum;
+use posit::inner::unpack::unpack;
+
+// The cell of a finite posit alone.
+fn posit_cell(n: u32, p: u32) -> u32
+    requires { ⌜ (3 ≤ n) × (n ≤ 16) × (Finite n p) ⌝ }
+    ensures { λ r. ⌜ r ≡ 2 * numberOf n p + 1 ⌝ }
+{
+    2 * ((p + power32(n - 1) - 1) % power32(n)) + 1
+}
+
+// The cell of the sum of two numbers other than 0, g · 2^s and h · 2^t in size.
+fn finite_cell(n: u32, es: u32, less: bool, s: i32, g: u32, under: bool, t: i32, h: u32) -> u32
+    requires { ⌜ (Format n es) × (SmallForm s g) × (SmallForm t h) ⌝ }
+    ensures { λ r. ⌜ r ≡ cellOf n es (finiteValue less s g +ᶠ finiteValue under t h) ⌝ }
+{
+    match exact_sum(less, s, g, under, t, h) {
+        Sum::Nothing => power32(n) - 1,
+        Sum::Something {
+            negative,
+            magnitude,
+        } => cell_of(n, es, negative, magnitude),
+    }
+}
+
+// The cell of the exact sum of two finite posits.
+fn sum_cell(n: u32, es: u32, p: u32, q: u32) -> u32
+    requires { ⌜ (Format n es) × (Finite n p) × (Finite n q) ⌝ }
+    ensures { λ r. ⌜ r ≡ cellOf n es (value n es p +ᶠ value n es q) ⌝ }
+{
+    match unpack(n, es, p) {
+        Decoded::Nar => 0,
+        Decoded::Zero => posit_cell(n, q),
+        Decoded::Finite {
+            negative: less,
+            scale: s,
+            fraction: g,
+        } => match unpack(n, es, q) {
+            Decoded::Nar => 0,
+            Decoded::Zero => posit_cell(n, p),
+            Decoded::Finite {
+                negative: under,
+                scale: t,
+                fraction: h,
+            } => finite_cell(n, es, less, s, g, under, t, h),
+        },
+    }
+}
+
+// The first cell of all sums of a number from the start cell x up and one from y up: closed where both are.
+fn sum_start(n: u32, es: u32, x: u32, y: u32) -> u32
+    requires { ⌜ (Format n es) × (x ≤ topCell n) × (y ≤ topCell n) ⌝ }
+    ensures { λ r. ⌜ r ≡ sumStart n es x y ⌝ }
+{
+    if x == 0 {
+        return 0;
+    }
+    if y == 0 {
+        return 0;
+    }
+    let cell = sum_cell(n, es, start_posit(n, x), start_posit(n, y));
+    if x % 2 + y % 2 == 2 {
+        return cell;
+    }
+    2 * ((cell + 1) / 2)
+}
+
+// The last cell of all sums of a number up to the end cell x and one up to y.
+fn sum_end(n: u32, es: u32, x: u32, y: u32) -> u32
+    requires { ⌜ (Format n es) × (x ≤ topCell n) × (y ≤ topCell n) ⌝ }
+    ensures { λ r. ⌜ r ≡ sumEnd n es x y ⌝ }
+{
+    let top = top_cell(n);
+    if x == top {
+        return top;
+    }
+    if y == top {
+        return top;
+    }
+    let cell = sum_cell(n, es, end_posit(n, x), end_posit(n, y));
+    if x % 2 + y % 2 == 2 {
+        return cell;
+    }
+    2 * (cell / 2)
+}
+
+pub fn add_ranges(n: u32, es: u32, a: u64, b: u64) -> u64
+    requires { ⌜ (Format n es) × (Real n a) × (Real n b) ⌝ }
+    ensures { λ r. ⌜ r ≡ answerOf n es 0 a b ⌝ }
+{
+    let x = cells_of(n, a);
+    let y = cells_of(n, b);
+    if x.hi < x.lo {
+        return joined(n, 1, 1);
+    }
+    if y.hi < y.lo {
+        return joined(n, 1, 1);
+    }
+    let sums = Span {
+        lo: sum_start(n, es, x.lo, y.lo),
+        hi: sum_end(n, es, x.hi, y.hi),
+    };
+    word_of(n, sums)
+}
+
+// The difference is the sum with the negated range.
+pub fn subtract_ranges(n: u32, es: u32, a: u64, b: u64) -> u64
+    requires { ⌜ (Format n es) × (Real n a) × (Real n b) ⌝ }
+    ensures { λ r. ⌜ r ≡ answerOf n es 1 a b ⌝ }
+{
+    add_ranges(n, es, a, turned(n, es, b))
+}
