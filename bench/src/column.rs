@@ -55,7 +55,7 @@ fn number(n: u32, es: u32, bits: u64) -> Number {
 }
 
 /// Bits that look random, by the finisher of splitmix.
-fn mixed(seed: u64) -> u64 {
+pub fn mixed(seed: u64) -> u64 {
     let x = (seed + 1).wrapping_mul(0x9e37_79b9_7f4a_7c15);
     let x = (x ^ x >> 30).wrapping_mul(0xbf58_476d_1ce4_e5b9);
     let x = (x ^ x >> 27).wrapping_mul(0x94d0_49bb_1331_11eb);

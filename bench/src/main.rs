@@ -1,10 +1,12 @@
-//! Prints one table: nanoseconds per operation of the proved code, plain Rust and the second program.
+//! Prints two tables: nanoseconds per operation of the proved code, for posits plain Rust, and the second program.
 
 mod column;
 mod plain;
+mod ranges;
 mod stopwatch;
 
 use column::{Column, LENGTH};
+use ranges::Ranges;
 use second::refusal::Answer;
 use std::fmt::Debug;
 use std::hint::black_box;
@@ -15,6 +17,14 @@ fn main() {
     println!("|---|---|---|---|---|");
     for (n, es) in [(8, 2), (16, 2)] {
         lines(&Column::of(n, es));
+    }
+    println!();
+    println!("| Format | Call on ranges | Ranges | Proved | Second program |");
+    println!("|---|---|---|---|---|");
+    for (n, es) in [(8, 2), (16, 2)] {
+        for column in ranges::of(n, es) {
+            range_lines(&column);
+        }
     }
 }
 
@@ -103,8 +113,26 @@ fn line<T: PartialEq + Debug, U>(
     println!("| {format:?} | {name} | {proved:.1} | {plain:.1} | {second:.1} |");
 }
 
+/// A line for each operation on a row of ranges, none of which is refused.
+fn range_lines(column: &Ranges) {
+    for (name, op) in [("add", 0), ("multiply", 2), ("divide", 3)] {
+        let proved = |c: &Ranges, row: usize| {
+            jorumrain::range::operate(c.n, c.es, op, c.left[row], c.right[row])
+        };
+        let second = |c: &Ranges, row: usize| {
+            second::range::operate(c.n, c.es, op.into(), c.left[row], c.right[row])
+        };
+        for row in 0..LENGTH {
+            assert_eq!(proved(column, row).number, 0, "{name}, row {row}");
+        }
+        let [proved, second] = nanoseconds([&|| pass(column, &proved), &|| pass(column, &second)]);
+        let (format, ranges) = ((column.n, column.es), column.name);
+        println!("| {format:?} | {name} | {ranges} | {proved:.1} | {second:.1} |");
+    }
+}
+
 /// The call on each row of the column once.
-fn pass<T>(column: &Column, call: impl Fn(&Column, usize) -> T) {
+fn pass<C, T>(column: &C, call: impl Fn(&C, usize) -> T) {
     let column = black_box(column);
     for row in 0..LENGTH {
         black_box(call(column, row));

@@ -23,6 +23,10 @@ unsafe extern "C" {
     #[link_name = "jorumrain_range_negate"]
     pub safe fn negate(n: u32, es: u32, word: u64) -> RangeAnswer;
 
+    /// 0 adds, 1 subtracts, 2 multiplies, 3 divides; every other number is refused.
+    #[link_name = "jorumrain_range_operate"]
+    pub safe fn operate(n: u32, es: u32, operation: u8, left: u64, right: u64) -> RangeAnswer;
+
     /// Whether each member of the left range is in the right one.
     #[link_name = "jorumrain_range_inside"]
     pub safe fn inside(n: u32, es: u32, left: u64, right: u64) -> RangeReply;

@@ -3,7 +3,7 @@ use mathlib.Core.Path.{_≡_}
 use Prim.Native.Nat.{ℕ}
 use Rattle.range.specs.declared.answer.Reply.{Reply}
 use Rattle.range.specs.declared.answer.WordAnswer.{WordAnswer}
-use Rattle.range.specs.Calls.{NegationOf, ComparisonOf}
+use Rattle.range.specs.Calls.{NegationOf, ComparisonOf, OperationOf}
 use Rattle.link.specs.declared.range_shape.RangeAnswer.{RangeAnswer}
 use Rattle.link.specs.declared.range_shape.RangeReply.{RangeReply}
 use Rattle.link.specs.RangeShapes.{ofWordAnswer, ofReply}
@@ -19,3 +19,9 @@ pub record ComparesAs (P : ℕ → ℕ → ℕ → ℕ → Type 0) (n es a b : �
   pub answer : Reply
   pub meets : ComparisonOf P n es a b answer
   pub shape : r ≡ ofReply answer
+
+-- what `jorumrain_range_operate` gives
+pub record OperatesAs (n es op a b : ℕ) (r : RangeAnswer) : Type 0 where
+  pub answer : WordAnswer
+  pub meets : OperationOf n es op a b answer
+  pub shape : r ≡ ofWordAnswer answer

@@ -7,6 +7,7 @@ pub mod negate;
 pub mod operate;
 pub mod range_compare;
 pub mod range_negate;
+pub mod range_operate;
 pub mod range_shape;
 pub mod shape;
 pub mod to_float;

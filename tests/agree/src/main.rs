@@ -12,6 +12,7 @@ mod patterns;
 mod picks;
 mod random;
 mod range_call;
+mod range_operations;
 mod range_refusals;
 mod ranges;
 mod refusals;
@@ -24,7 +25,7 @@ use tally::Outcome;
 type Group = (&'static str, fn() -> Outcome);
 
 /// The groups in the order of their lines.
-const GROUPS: [Group; 13] = [
+const GROUPS: [Group; 15] = [
     ("patterns", patterns::every),
     ("comparisons", pairs::all_and_random),
     ("middles", encodings::around_middles),
@@ -37,6 +38,11 @@ const GROUPS: [Group; 13] = [
     ("refusals", refusals::every),
     ("ranges", ranges::all_pairs),
     ("ranges, random", ranges::random_pairs),
+    ("operations on ranges", range_operations::all_pairs),
+    (
+        "operations on ranges, random",
+        range_operations::random_pairs,
+    ),
     ("refusals of ranges", range_refusals::every),
 ];
 

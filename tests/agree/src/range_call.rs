@@ -13,6 +13,21 @@ pub fn negate(tally: &mut Tally, n: u32, es: u32, word: u64) -> Result<(), Diffe
     agree(tally, "negate", &(n, es, word), refusal, proved, second)
 }
 
+pub fn operate(
+    tally: &mut Tally,
+    n: u32,
+    es: u32,
+    op: u8,
+    left: u64,
+    right: u64,
+) -> Result<(), Difference> {
+    let proved = proved::operate(n, es, op, left, right);
+    let second = shape_of_word(range::operate(n, es, op.into(), left, right));
+    let arguments = (n, es, op, left, right);
+    let refusal = (proved.number, proved.place);
+    agree(tally, "operate", &arguments, refusal, proved, second)
+}
+
 /// The three comparisons of two words.
 pub fn compare(tally: &mut Tally, n: u32, es: u32, a: u64, b: u64) -> Result<(), Difference> {
     let answers = [

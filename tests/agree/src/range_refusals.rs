@@ -1,8 +1,11 @@
-//! Refusals of the calls on ranges: formats within and outside the limits, words at and past 2^(2n+2) and words that hold infinity in each operand.
+//! Refusals of the calls on ranges: formats within and outside the limits, operation numbers above 3, words at and past 2^(2n+2) and words that hold infinity in each operand.
 
 use crate::formats;
 use crate::range_call;
 use crate::tally::{Outcome, Tally};
+
+/// The operations, and numbers that are none.
+const OPERATIONS: [u8; 7] = [0, 1, 2, 3, 4, 128, 255];
 
 pub fn every() -> Outcome {
     let mut tally = Tally::default();
@@ -11,6 +14,9 @@ pub fn every() -> Outcome {
             range_call::negate(&mut tally, n, es, left)?;
             for right in words(n) {
                 range_call::compare(&mut tally, n, es, left, right)?;
+                for op in OPERATIONS {
+                    range_call::operate(&mut tally, n, es, op, left, right)?;
+                }
             }
         }
     }
