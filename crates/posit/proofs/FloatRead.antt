@@ -1,8 +1,8 @@
 -- What the bits of a 64-bit float are read as: sign, exponent and digits are quotients and remainders, and the digits with their exponent, counted in
--- units of 2^-1074, are the float's value; so the posit that those digits are rounded to is the float's.
+-- units of 2^-1074, are the float's value; a magnitude knows them exactly, and the posit that they are rounded to is the float's.
 use mathlib.Core.Path.{_≡_, refl, sym, ap, _∙_, subst}
 use mathlib.Core.Bool.{Bool, true, false, cond}
-use Prim.Native.Nat.{ℕ, zero, suc, _+_, _-_, _*_, _/_, _%_, _^_, _<_}
+use Prim.Native.Nat.{ℕ, zero, suc, _+_, _-_, _*_, _/_, _%_, _^_, _≤_, _<_}
 use native.Mathlib.Nat.{lt-irrefl, mul-one}
 use native.Mathlib.Omega.{arith}
 use lib.Dec.{leb, eqb}
@@ -11,7 +11,7 @@ use lib.Ieee.{Float, nan, inf, fin, binary64, up, down, odd, ofFields, ofBits}
 use lib.Ieee.Exact.{HasValue, odd-sign}
 use lib.Pow.{pow-add}
 use borrow.Author.Tests.{eq-eqb, ne-eqb}
-use Rattle.exact.specs.Fraction.{_≈_, overPower}
+use Rattle.exact.specs.Fraction.{Fraction, _≈_, whole, overPower}
 use Rattle.exact.proofs.Order.{≈-sym, ≈-trans, ≈-refl}
 use Rattle.exact.proofs.Sum.{negᶠ-cong}
 use Rattle.exact.proofs.OverPower.{overPower-pos-≈}
@@ -20,8 +20,10 @@ use Rattle.posit.specs.Format.{Format, nar}
 use Rattle.posit.specs.Rounding.{Rounds, zero-gives-zero}
 use Rattle.posit.specs.Decoding.{finiteValue}
 use Rattle.posit.specs.Locating.{given}
-use Rattle.posit.specs.Magnitudes.{withSignᶠ, RoundsEach}
-use Rattle.posit.specs.Floats.{FromFloat, FromDigits}
+use Rattle.posit.specs.Magnitudes.{withSignᶠ, Knows}
+use Rattle.posit.specs.declared.inner.float_bits.FloatParts.{FloatParts}
+use Rattle.posit.specs.declared.inner.float_bits.FloatParts.the-variants.{Infinite, Nothing, Number}
+use Rattle.posit.specs.Floats.{IsExactly, FromFloat, ofDigits, NoNumber, NumberParts, PartsOfFloat}
 use Rattle.posit.proofs.OneAnswer.{rounds-respects}
 use Rattle.posit.proofs.Exactly.{known-exactly}
 
@@ -66,53 +68,93 @@ value-is : (s : Bool) (m : ℕ) (e : ℤ) (a l : ℕ) → m * up e * 2 ^ l ≡ a
 value-is true m e a l h = ≈-trans (≈-sym (scaled-negᶠ e (pos m))) (negᶠ-cong (value-above m e a l h))
 value-is false m e a l h = value-above m e a l h
 
-module _ {n es : ℕ} (f : Format n es) where
-  rounds-float : (x : Float) (s : Bool) (a l : ℕ) {p : ℕ} → HasValue x s a (2 ^ l) → Rounds n es (withSignᶠ s (overPower (pos a) l)) p → FromFloat n es x p
-  rounds-float nan s a l h r = absurd h
-  rounds-float (inf t) s a l h r = absurd h
-  rounds-float (fin t m e) s a l {p} h r =
-      rounds-respects n es (f .wide-enough) (≈-sym (value-is t m e a l (h .1))) (subst (λ (b : Bool). Rounds n es (withSignᶠ b (overPower (pos a) l)) p) (sym (h .0)) r)
+pub value-of : (x : Float) (s : Bool) (a l : ℕ) → HasValue x s a (2 ^ l) → IsExactly x (withSignᶠ s (overPower (pos a) l))
+value-of nan s a l h = absurd h
+value-of (inf t) s a l h = absurd h
+value-of (fin t m e) s a l h =
+    subst (λ (b : Bool). finiteValue t e m ≈ withSignᶠ b (overPower (pos a) l)) (h .0) (value-is t m e a l (h .1))
 
-  digits-rounded : (s : Bool) (d k : ℕ) {p : ℕ} → FromDigits n es s d k p → FromFloat n es (odd 53 s d k 1074) p
-  digits-rounded s d k r = rounds-float (odd 53 s d k 1074) s (d * 2 ^ k) 1074 (odd-sign 53 s d k 1074) r
+digits-exactly : (s : Bool) (d k : ℕ) → IsExactly (odd 53 s d k 1074) (withSignᶠ s (ofDigits d k))
+digits-exactly s d k = value-of (odd 53 s d k 1074) s (d * 2 ^ k) 1074 (odd-sign 53 s d k 1074)
 
-  zero-rounded : (s : Bool) → FromFloat n es (odd 53 s 0 0 1074) 0
-  unfolding odd
-  zero-rounded true = zero-gives-zero (scaled-zero (pos 0)) refl
-  zero-rounded false = zero-gives-zero (scaled-zero (pos 0)) refl
+zero-exactly : (s : Bool) → IsExactly (odd 53 s 0 0 1074) (whole (pos 0))
+unfolding odd
+zero-exactly true = scaled-zero (pos 0)
+zero-exactly false = scaled-zero (pos 0)
 
-  -- an infinity or a NaN
-  no-number : (s no-digits : Bool) {p : ℕ} → p ≡ nar n → FromFloat n es (cond no-digits (inf s) nan) p
-  no-number s true r = r
-  no-number s false r = r
+-- an infinity or a NaN
+no-number : (s no-digits : Bool) → NoNumber (cond no-digits (inf s) nan)
+no-number s true = tt
+no-number s false = tt
 
-  pub ones-rounded : (b : ℕ) {p : ℕ} → field b ≡ 2047 → p ≡ nar n → FromFloat n es (ofBits binary64 b) p
-  ones-rounded b h r = rw (read b, ones-read (sign b) (field b) (digits b) h) (no-number (sign b) (eqb (digits b) 0) r)
+-- ---- the parts that the bits say
+module _ (b : ℕ) where
+  pub ones-parts : field b ≡ 2047 → NoNumber (ofBits binary64 b)
+  ones-parts h = rw (read b, ones-read (sign b) (field b) (digits b) h) (no-number (sign b) (eqb (digits b) 0))
 
-  pub nothing-rounded : (b : ℕ) → b % 2 ^ 63 ≡ 0 → FromFloat n es (ofBits binary64 b) 0
-  nothing-rounded b h =
+  pub nothing-parts : b % 2 ^ 63 ≡ 0 → IsExactly (ofBits binary64 b) (whole (pos 0))
+  nothing-parts h =
       let no-field : field b ≡ 0 = omega arith in
       let no-digits : digits b ≡ 0 = omega arith in
-      rw (read b, small-read (sign b) (field b) (digits b) no-field, no-digits) (zero-rounded (sign b))
+      rw (read b, small-read (sign b) (field b) (digits b) no-field, no-digits) (zero-exactly (sign b))
 
-  pub small-rounded : (b : ℕ) {p : ℕ} → field b ≡ 0 → FromDigits n es (sign b) (b % 2 ^ 63) 0 p → FromFloat n es (ofBits binary64 b) p
-  small-rounded b h r =
+  small-exactly : field b ≡ 0 → IsExactly (ofBits binary64 b) (withSignᶠ (sign b) (ofDigits (b % 2 ^ 63) 0))
+  small-exactly h =
       let same : digits b ≡ b % 2 ^ 63 = omega arith in
-      rw (read b, small-read (sign b) (field b) (digits b) h, same) (digits-rounded _ _ _ r)
+      rw (read b, small-read (sign b) (field b) (digits b) h, same) (digits-exactly (sign b) (b % 2 ^ 63) 0)
 
-  pub normal-rounded : (b : ℕ) {p : ℕ} → 0 < field b → field b < 2047 → FromDigits n es (sign b) (2 ^ 52 + b % 2 ^ 63 % 2 ^ 52) (field b - 1) p
-      → FromFloat n es (ofBits binary64 b) p
-  normal-rounded b some few r =
+  pub small-parts : field b ≡ 0 → (b % 2 ^ 63 ≡ 0 → ⊥) → NumberParts (ofBits binary64 b) (sign b) (b % 2 ^ 63) 0
+  small-parts h some = record { some = omega arith; few = omega arith; shift-fits = omega arith; exactly = small-exactly h }
+
+  normal-exactly : 0 < field b → field b < 2047 → IsExactly (ofBits binary64 b) (withSignᶠ (sign b) (ofDigits (2 ^ 52 + b % 2 ^ 63 % 2 ^ 52) (field b - 1)))
+  normal-exactly some few =
       let same : digits b ≡ b % 2 ^ 63 % 2 ^ 52 = omega arith in
-      rw (read b, normal-read (sign b) (field b) (digits b) some few, same) (digits-rounded _ _ _ r)
+      rw (read b, normal-read (sign b) (field b) (digits b) some few, same) (digits-exactly (sign b) (2 ^ 52 + b % 2 ^ 63 % 2 ^ 52) (field b - 1))
+
+  pub normal-parts : 0 < field b → field b < 2047 → NumberParts (ofBits binary64 b) (sign b) (2 ^ 52 + b % 2 ^ 63 % 2 ^ 52) (field b - 1)
+  normal-parts some few = record { some = omega arith; few = omega arith; shift-fits = omega arith; exactly = normal-exactly some few }
 
 -- ---- digits as `locate` asks for them: few are moved up
 padded : (d k l j : ℕ) → overPower (pos (d * 2 ^ k)) l ≈ given (d * 2 ^ j) k (l + j)
 padded d k l j = overPower-pos-≈ l (l + j) .1 (rw (pow-add 2 l j) (omega arith))
 
-module _ (n es : ℕ) (negative : Bool) (d k : ℕ) {p : ℕ} where
-  pub few-digits : RoundsEach n es negative (record { g = d * 2 ^ 16; s = k; a = 1090; lost = false }) p → FromDigits n es negative d k p
-  few-digits each = each (overPower (pos (d * 2 ^ k)) 1074) (known-exactly (d * 2 ^ 16) k 1090 (padded d k 1074 16))
+module _ (d k : ℕ) (fits : k < 2 ^ 11) where
+  pub few-digits : 0 < d → d < 2 ^ 32 → Knows (ofDigits d k) (record { g = d * 2 ^ 16; s = k; a = 1090; lost = false })
+  few-digits some few =
+      record {
+        words = record { enough = omega arith; not-too-many = omega arith; scale-up = omega arith; scale-down = omega arith };
+        within = known-exactly (d * 2 ^ 16) k 1090 (padded d k 1074 16);
+      }
 
-  pub many-digits : RoundsEach n es negative (record { g = d; s = k; a = 1074; lost = false }) p → FromDigits n es negative d k p
-  many-digits each = each (overPower (pos (d * 2 ^ k)) 1074) (known-exactly d k 1074 (≈-refl (overPower (pos (d * 2 ^ k)) 1074)))
+  pub many-digits : 2 ^ 32 ≤ d → d < 2 ^ 53 → Knows (ofDigits d k) (record { g = d; s = k; a = 1074; lost = false })
+  many-digits many less =
+      record {
+        words = record { enough = omega arith; not-too-many = omega arith; scale-up = omega arith; scale-down = omega arith };
+        within = known-exactly d k 1074 (≈-refl (ofDigits d k));
+      }
+
+-- ---- the posit that a float is rounded to, by its parts
+module _ {n es : ℕ} (f : Format n es) where
+  pub no-number-rounded : (x : Float) {p : ℕ} → NoNumber x → p ≡ nar n → FromFloat n es x p
+  no-number-rounded nan h e = e
+  no-number-rounded (inf s) h e = e
+  no-number-rounded (fin s m e) h r = absurd h
+
+  pub number-rounded : (x : Float) {z : Fraction} {p : ℕ} → IsExactly x z → Rounds n es z p → FromFloat n es x p
+  number-rounded nan h r = absurd h
+  number-rounded (inf s) h r = absurd h
+  number-rounded (fin s m e) h r = rounds-respects n es (f .wide-enough) (≈-sym h) r
+
+  pub zero-rounded : (x : Float) → IsExactly x (whole (pos 0)) → FromFloat n es x 0
+  zero-rounded x h = number-rounded x h (zero-gives-zero (≈-refl (whole (pos 0))) refl)
+
+-- ---- the parts by their case
+module _ (x : Float) {r : FloatParts} (h : PartsOfFloat x r) where
+  pub is-infinite : r ≡ Infinite → NoNumber x
+  is-infinite e = subst (PartsOfFloat x) e h
+
+  pub is-nothing : r ≡ Nothing → IsExactly x (whole (pos 0))
+  is-nothing e = subst (PartsOfFloat x) e h
+
+  pub is-number : {negative : Bool} {d k : ℕ} → r ≡ Number negative d k → NumberParts x negative d k
+  is-number e = subst (PartsOfFloat x) e h

@@ -1,14 +1,16 @@
 -- Posits from and to 64-bit floats, by exact values.
 use mathlib.Core.Path.{_≡_}
 use mathlib.Core.Bool.{Bool, true, false}
-use Prim.Native.Nat.{ℕ, _*_, _^_}
+use Prim.Native.Nat.{ℕ, _*_, _^_, _<_}
 use lib.IntN.{pos}
 use lib.Ieee.{Float, nan, inf, fin}
-use Rattle.exact.specs.Fraction.{Fraction, _≈_, overPower}
+use Rattle.exact.specs.Fraction.{Fraction, _≈_, whole, overPower}
 use Rattle.posit.specs.declared.answer.Answer.{Answer}
 use Rattle.posit.specs.declared.float.Floated.{Floated}
 use Rattle.posit.specs.declared.float.Floated.the-variants.{Value, Nar}
 use Rattle.posit.specs.declared.to_float.Floating.{Floating}
+use Rattle.posit.specs.declared.inner.float_bits.FloatParts.{FloatParts}
+use Rattle.posit.specs.declared.inner.float_bits.FloatParts.the-variants.{Infinite, Nothing, Number}
 use Rattle.posit.specs.Format.{Finite, nar}
 use Rattle.posit.specs.Value.{value}
 use Rattle.posit.specs.Rounding.{Rounds}
@@ -35,9 +37,27 @@ FromFloat n es (fin t m e) p = Rounds n es (finiteValue t e m) p
 abbrev pub FromFloatOf : ℕ → ℕ → Float → Answer → Type 0
 FromFloatOf n es x r = Answers (verdictOfFormat n es) (r .number) (r .place) (FromFloat n es x (r .posit)) (r .posit ≡ 0)
 
--- digits · 2^shift of the smallest float above 0, 2^-1074, with a sign, rounded
-abbrev pub FromDigits : ℕ → ℕ → Bool → ℕ → ℕ → ℕ → Type 0
-FromDigits n es negative digits shift p = Rounds n es (withSignᶠ negative (overPower (pos (digits * 2 ^ shift)) 1074)) p
+-- digits · 2^shift of the smallest float above 0, 2^-1074
+abbrev pub ofDigits : ℕ → ℕ → Fraction
+ofDigits digits shift = overPower (pos (digits * 2 ^ shift)) 1074
+
+-- the float x is no number: a NaN or an infinity
+abbrev pub NoNumber : Float → Type 0
+NoNumber nan = Unit {0}
+NoNumber (inf s) = Unit {0}
+NoNumber (fin t m e) = ⊥
+
+-- the float x by its sign, its digits and their shift
+pub record NumberParts (x : Float) (negative : Bool) (digits shift : ℕ) : Type 0 where
+  pub some : 0 < digits
+  pub few : digits < 2 ^ 53
+  pub shift-fits : shift < 2 ^ 11
+  pub exactly : IsExactly x (withSignᶠ negative (ofDigits digits shift))
+
+abbrev pub PartsOfFloat : Float → FloatParts → Type 0
+PartsOfFloat x Infinite = NoNumber x
+PartsOfFloat x Nothing = IsExactly x (whole (pos 0))
+PartsOfFloat x (Number negative digits shift) = NumberParts x negative digits shift
 
 -- a finite posit's float: its exact value, and +0.0 for zero
 pub record ExactFloat (n es p : ℕ) (x : Float) : Type 0 where

@@ -26,7 +26,7 @@ pub mod Examples
 pub mod CellFrom
 pub mod ZeroCell
 pub mod Edges
-pub mod Reading
+pub mod Operands
 pub mod Parts
 pub mod SignedCells
 pub mod ResultCell
@@ -37,3 +37,6 @@ pub mod SumRange
 pub mod Difference
 pub mod HasZero
 pub mod Operations
+pub mod FloatOrder
+pub mod Readings
+pub mod GoingOut

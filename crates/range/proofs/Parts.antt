@@ -27,7 +27,7 @@ use Rattle.range.proofs.Grid.{posits}
 use Rattle.range.proofs.Places.{top-cell}
 use Rattle.range.proofs.ZeroCell.{even, zero-in-cell, above-zero, zero-below}
 use Rattle.range.proofs.Edges.{no-limit, closed-limit, open-limit, IsEdge}
-use Rattle.range.proofs.Reading.{Reads, bounded}
+use Rattle.range.proofs.Operands.{Reads, bounded}
 
 -- the part above 0 of u, with the cells p
 pub data PartOf (n es : ℕ) (u : Extent Fraction) (p : Span) : Type 0 where

@@ -37,7 +37,7 @@ use Rattle.range.proofs.Places.{top-cell}
 use Rattle.range.proofs.Mirrored.{odd, mirrored-some, mirrored-none}
 use Rattle.range.proofs.ZeroCell.{cell-of-zero, zero-in-cell}
 use Rattle.range.proofs.Edges.{first-cell-is, last-cell-is}
-use Rattle.range.proofs.Reading.{Reads, bounded, word-reads, negative-reads}
+use Rattle.range.proofs.Operands.{Reads, bounded, word-reads, negative-reads}
 use Rattle.range.proofs.Parts.{PartOf, no-part, some-part, part-cells-none, part-reads}
 
 -- the cells that an extent reaches

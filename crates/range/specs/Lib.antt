@@ -8,3 +8,4 @@ pub mod Spans
 pub mod Computed
 pub mod Cells
 pub mod Signs
+pub mod Reading

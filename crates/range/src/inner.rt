@@ -3,6 +3,7 @@ pub mod add;
 pub mod cell;
 pub mod cells;
 pub mod divide;
+pub mod float_end;
 pub mod judge;
 pub mod multiply;
 pub mod operate;

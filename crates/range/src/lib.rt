@@ -4,3 +4,4 @@ pub mod compare;
 pub mod inner;
 pub mod negate;
 pub mod operate;
+pub mod reading;

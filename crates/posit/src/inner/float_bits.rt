@@ -3,8 +3,8 @@ ghost use mathlib.Core.Path.{_≡_};
 ghost use Prim.Native.Nat.{_%_, _^_, _<_};
 ghost use lib.Ieee.{fin, binary64, ofBits};
 ghost use Rattle.posit.specs.Format.{Format};
-ghost use Rattle.posit.specs.Floats.{FromFloat, FromDigits};
-ghost use Rattle.posit.specs.Magnitudes.{SmallForm};
+ghost use Rattle.posit.specs.Floats.{FromFloat, PartsOfFloat, ofDigits};
+ghost use Rattle.posit.specs.Magnitudes.{SmallForm, Knows};
 use super::magnitude::Magnitude;
 use super::magnitude::round_magnitude;
 use super::power::highest_bit;
@@ -29,55 +29,78 @@ const SPARE_BITS: u64 = 16;
 
 const SPARE: u64 = 0x1_0000;
 
-// The posit that the float with these bits, which is no NaN, is rounded to.
-pub fn from_pattern(n: u32, es: u32, bits: u64) -> u32
-    requires { ⌜ Format n es ⌝ }
-    ensures { λ r. ⌜ FromFloat n es (ofBits binary64 bits) r ⌝ }
+// What the bits of a float that is no NaN say: an infinity, 0, or digits · 2^shift of the smallest float above 0, with a sign.
+pub enum FloatParts {
+    Infinite,
+    Nothing,
+    Number {
+        negative: bool,
+        digits: u64,
+        shift: u64,
+    },
+}
+
+pub fn float_parts(bits: u64) -> FloatParts
+    ensures { λ r. ⌜ PartsOfFloat (ofBits binary64 bits) r ⌝ }
 {
     let negative = SIGN <= bits;
     let size = bits % SIGN;
     let exponent = size / HIDDEN;
     if exponent == INFINITE {
-        return power32(n - 1);
+        return FloatParts::Infinite;
     }
     if size == 0 {
-        return 0;
+        return FloatParts::Nothing;
     }
     if exponent == 0 {
-        return from_digits(n, es, negative, size, 0);
+        return FloatParts::Number {
+            negative: negative,
+            digits: size,
+            shift: 0,
+        };
     }
-    from_digits(n, es, negative, HIDDEN + size % HIDDEN, exponent - 1)
+    FloatParts::Number {
+        negative: negative,
+        digits: HIDDEN + size % HIDDEN,
+        shift: exponent - 1,
+    }
 }
 
-// The posit that digits · 2^shift of the smallest float above 0, with a sign, is rounded to.
-fn from_digits(n: u32, es: u32, negative: bool, digits: u64, shift: u64) -> u32
-    requires { ⌜ (Format n es) × (0 < digits) × (digits < 2 ^ 53) × (shift < 2 ^ 11) ⌝ }
-    ensures { λ r. ⌜ FromDigits n es negative digits shift r ⌝ }
+// digits · 2^shift of the smallest float above 0 as a magnitude.
+pub fn digits_magnitude(digits: u64, shift: u64) -> Magnitude
+    requires { ⌜ (0 < digits) × (digits < 2 ^ 53) × (shift < 2 ^ 11) ⌝ }
+    ensures { λ r. ⌜ Knows (ofDigits digits shift) r ⌝ }
 {
     if digits < FEW {
-        return round_magnitude(
-            n,
-            es,
-            negative,
-            Magnitude {
-                g: digits * SPARE,
-                s: shift,
-                a: LOWEST + SPARE_BITS,
-                lost: false,
-            },
-        );
-    }
-    round_magnitude(
-        n,
-        es,
-        negative,
-        Magnitude {
-            g: digits,
+        return Magnitude {
+            g: digits * SPARE,
             s: shift,
-            a: LOWEST,
+            a: LOWEST + SPARE_BITS,
             lost: false,
-        },
-    )
+        };
+    }
+    Magnitude {
+        g: digits,
+        s: shift,
+        a: LOWEST,
+        lost: false,
+    }
+}
+
+// The posit that the float with these bits, which is no NaN, is rounded to.
+pub fn from_pattern(n: u32, es: u32, bits: u64) -> u32
+    requires { ⌜ Format n es ⌝ }
+    ensures { λ r. ⌜ FromFloat n es (ofBits binary64 bits) r ⌝ }
+{
+    match float_parts(bits) {
+        FloatParts::Infinite => power32(n - 1),
+        FloatParts::Nothing => 0,
+        FloatParts::Number {
+            negative,
+            digits,
+            shift,
+        } => round_magnitude(n, es, negative, digits_magnitude(digits, shift)),
+    }
 }
 
 // The float that is g · 2^s in size, with a sign.

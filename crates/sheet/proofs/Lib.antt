@@ -1,0 +1,15 @@
+pub mod Tests
+pub mod Blocks
+pub mod Verdicts
+pub mod Limits
+pub mod Copies
+pub mod Pairs
+pub mod Steps
+pub mod Written
+pub mod Rows
+pub mod Members
+pub mod WrittenAt
+pub mod ColumnVerdict
+pub mod ColumnTruth
+pub mod SheetVerdict
+pub mod SheetTruth

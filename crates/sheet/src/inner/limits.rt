@@ -1,0 +1,88 @@
+// The tests of lengths: 1, 2, 7 and 9, at place 0.
+ghost use mathlib.Core.Path.{_≡_};
+ghost use Rattle.posit.specs.Refusal.{firstHit};
+ghost use Rattle.range.specs.Calls.{SaysVerdict};
+ghost use Rattle.sheet.specs.Column.{columnLimits};
+ghost use Rattle.sheet.specs.Sheet.{sheetLimits};
+use super::super::counted::NO_ROOM;
+use super::super::counted::WRONG_LENGTH;
+use posit::answer::DONE;
+use posit::answer::NO_OPERATION;
+use posit::answer::OUTSIDE_LIMITS;
+use posit::inner::format::is_format;
+use range::inner::judge::Judged;
+
+pub const LAST_OPERATION: u8 = 3;
+
+pub const LONGEST_COLUMN: usize = 4096;
+
+pub const MOST_INPUTS: usize = 32;
+
+pub const MOST_STEPS: usize = 64;
+
+pub const STEP_BYTES: usize = 3;
+
+// A number at place 0.
+fn at_start(number: u32) -> Judged
+    ensures { λ r. ⌜ (r .number ≡ number) × (r .place ≡ 0) ⌝ }
+{
+    Judged {
+        number: number,
+        place: 0,
+    }
+}
+
+// Columns of these lengths, written from a row on.
+pub fn judge_columns(
+    n: u32,
+    es: u32,
+    op: u8,
+    left: usize,
+    right: usize,
+    row: usize,
+    lent: usize,
+) -> Judged
+    ensures { λ r. ⌜ SaysVerdict (firstHit (columnLimits n es op left right row lent)) r ⌝ }
+{
+    if !is_format(n, es) {
+        return at_start(OUTSIDE_LIMITS);
+    }
+    if LAST_OPERATION < op {
+        return at_start(NO_OPERATION);
+    }
+    if left != right {
+        return at_start(WRONG_LENGTH);
+    }
+    if LONGEST_COLUMN < left {
+        return at_start(WRONG_LENGTH);
+    }
+    if lent < row {
+        return at_start(NO_ROOM);
+    }
+    if lent - row < left {
+        return at_start(NO_ROOM);
+    }
+    at_start(DONE)
+}
+
+// A sheet of so many inputs and bytes of steps.
+pub fn judge_sheet(n: u32, es: u32, inputs: usize, bytes: usize, lent: usize) -> Judged
+    ensures { λ r. ⌜ SaysVerdict (firstHit (sheetLimits n es inputs bytes lent)) r ⌝ }
+{
+    if !is_format(n, es) {
+        return at_start(OUTSIDE_LIMITS);
+    }
+    if MOST_INPUTS < inputs {
+        return at_start(WRONG_LENGTH);
+    }
+    if MOST_STEPS < bytes / STEP_BYTES {
+        return at_start(WRONG_LENGTH);
+    }
+    if bytes % STEP_BYTES != 0 {
+        return at_start(WRONG_LENGTH);
+    }
+    if lent < inputs + bytes / STEP_BYTES {
+        return at_start(NO_ROOM);
+    }
+    at_start(DONE)
+}
