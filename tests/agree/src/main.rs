@@ -4,6 +4,7 @@
 
 mod call;
 mod encodings;
+mod figures;
 mod floats;
 mod formats;
 mod operations;
@@ -25,7 +26,9 @@ use tally::Outcome;
 type Group = (&'static str, fn() -> Outcome);
 
 /// The groups in the order of their lines.
-const GROUPS: [Group; 15] = [
+const GROUPS: [Group; 17] = [
+    ("bench figures and further cases", figures::every),
+    ("published vectors", figures::vectors),
     ("patterns", patterns::every),
     ("comparisons", pairs::all_and_random),
     ("middles", encodings::around_middles),
