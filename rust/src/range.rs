@@ -18,6 +18,19 @@ pub struct RangeReply {
     pub yes: bool,
 }
 
+/// Number, place, and a range as two floats with their open marks and an empty mark.
+#[repr(C)]
+#[derive(Clone, Copy, Debug, PartialEq)]
+pub struct RangeOutgoing {
+    pub number: u32,
+    pub place: u32,
+    pub low: f64,
+    pub high: f64,
+    pub low_open: bool,
+    pub high_open: bool,
+    pub empty: bool,
+}
+
 // The declarations are those of crates/link, where no call asks anything of its caller.
 unsafe extern "C" {
     #[link_name = "jorumrain_range_negate"]
@@ -26,6 +39,13 @@ unsafe extern "C" {
     /// 0 adds, 1 subtracts, 2 multiplies, 3 divides; every other number is refused.
     #[link_name = "jorumrain_range_operate"]
     pub safe fn operate(n: u32, es: u32, operation: u8, left: u64, right: u64) -> RangeAnswer;
+
+    /// The smallest range of all numbers from low to high; the infinities mean unbounded.
+    #[link_name = "jorumrain_range_take_in"]
+    pub safe fn take_in(n: u32, es: u32, low: f64, high: f64) -> RangeAnswer;
+
+    #[link_name = "jorumrain_range_give_out"]
+    pub safe fn give_out(n: u32, es: u32, word: u64) -> RangeOutgoing;
 
     /// Whether each member of the left range is in the right one.
     #[link_name = "jorumrain_range_inside"]

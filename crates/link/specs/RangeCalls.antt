@@ -3,10 +3,14 @@ use mathlib.Core.Path.{_≡_}
 use Prim.Native.Nat.{ℕ}
 use Rattle.range.specs.declared.answer.Reply.{Reply}
 use Rattle.range.specs.declared.answer.WordAnswer.{WordAnswer}
+use Rattle.range.specs.declared.reading.Outgoing.{Outgoing}
 use Rattle.range.specs.Calls.{NegationOf, ComparisonOf, OperationOf}
+use Rattle.range.specs.Reading.{TakenIn, GivenOut}
+use lib.Ieee.{Float}
 use Rattle.link.specs.declared.range_shape.RangeAnswer.{RangeAnswer}
+use Rattle.link.specs.declared.range_shape.RangeOutgoing.{RangeOutgoing}
 use Rattle.link.specs.declared.range_shape.RangeReply.{RangeReply}
-use Rattle.link.specs.RangeShapes.{ofWordAnswer, ofReply}
+use Rattle.link.specs.RangeShapes.{ofWordAnswer, ofReply, ofOutgoing}
 
 -- what `jorumrain_range_negate` gives
 pub record NegatesAs (n es a : ℕ) (r : RangeAnswer) : Type 0 where
@@ -25,3 +29,15 @@ pub record OperatesAs (n es op a b : ℕ) (r : RangeAnswer) : Type 0 where
   pub answer : WordAnswer
   pub meets : OperationOf n es op a b answer
   pub shape : r ≡ ofWordAnswer answer
+
+-- what `jorumrain_range_take_in` gives
+pub record TakesInAs (n es : ℕ) (low high : Float) (r : RangeAnswer) : Type 0 where
+  pub answer : WordAnswer
+  pub meets : TakenIn n es (record { low = low; high = high }) answer
+  pub shape : r ≡ ofWordAnswer answer
+
+-- what `jorumrain_range_give_out` gives
+pub record GivesOutAs (n es a : ℕ) (r : RangeOutgoing) : Type 0 where
+  pub answer : Outgoing
+  pub meets : GivenOut n es a answer
+  pub shape : r ≡ ofOutgoing answer

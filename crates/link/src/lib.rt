@@ -8,6 +8,7 @@ pub mod operate;
 pub mod range_compare;
 pub mod range_negate;
 pub mod range_operate;
+pub mod range_reading;
 pub mod range_shape;
 pub mod shape;
 pub mod to_float;

@@ -28,7 +28,7 @@ pub fn every() -> Outcome {
 }
 
 /// Zeros, infinities, NaNs of both signs and kinds, and the ends of the normal and the subnormal floats.
-fn specials() -> impl Iterator<Item = f64> {
+pub fn specials() -> impl Iterator<Item = f64> {
     let infinity = f64::INFINITY.to_bits();
     let hidden = 1 << FRACTION_BITS;
     let sizes = [0, 1, hidden - 1, hidden, hidden + 1, infinity - 1, infinity];
@@ -52,7 +52,7 @@ fn every_exponent(
 }
 
 /// A float of a sign, an exponent field and the low bits for its fraction.
-fn float(negative: bool, field: u64, fraction: u64) -> f64 {
+pub fn float(negative: bool, field: u64, fraction: u64) -> f64 {
     let low = fraction % (1 << FRACTION_BITS);
     f64::from_bits(u64::from(negative) << 63 | field << FRACTION_BITS | low)
 }

@@ -16,6 +16,7 @@ mod range_call;
 mod range_operations;
 mod range_refusals;
 mod ranges;
+mod readings;
 mod refusals;
 mod tally;
 
@@ -26,7 +27,7 @@ use tally::Outcome;
 type Group = (&'static str, fn() -> Outcome);
 
 /// The groups in the order of their lines.
-const GROUPS: [Group; 17] = [
+const GROUPS: [Group; 19] = [
     ("bench figures and further cases", figures::every),
     ("published vectors", figures::vectors),
     ("patterns", patterns::every),
@@ -47,6 +48,8 @@ const GROUPS: [Group; 17] = [
         range_operations::random_pairs,
     ),
     ("refusals of ranges", range_refusals::every),
+    ("readings", readings::coming_in),
+    ("ranges going out", readings::going_out),
 ];
 
 fn main() -> ExitCode {

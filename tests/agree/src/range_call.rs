@@ -4,6 +4,7 @@ use crate::call::agree;
 use crate::tally::{Difference, Tally};
 use jorumrain::range::{self as proved, RangeAnswer, RangeReply};
 use second::range;
+use second::reading::{self, Reading};
 use second::refusal::Answer;
 
 pub fn negate(tally: &mut Tally, n: u32, es: u32, word: u64) -> Result<(), Difference> {
@@ -26,6 +27,29 @@ pub fn operate(
     let arguments = (n, es, op, left, right);
     let refusal = (proved.number, proved.place);
     agree(tally, "operate", &arguments, refusal, proved, second)
+}
+
+pub fn take_in(tally: &mut Tally, n: u32, es: u32, low: f64, high: f64) -> Result<(), Difference> {
+    let proved = proved::take_in(n, es, low, high);
+    let second = shape_of_word(reading::take_in(n, es, Reading { low, high }));
+    let refusal = (proved.number, proved.place);
+    let arguments = (n, es, low, high);
+    agree(tally, "take_in", &arguments, refusal, proved, second)
+}
+
+/// A range going out; floats are compared by their bits, which tell +0.0 from -0.0.
+pub fn give_out(tally: &mut Tally, n: u32, es: u32, word: u64) -> Result<(), Difference> {
+    let out = proved::give_out(n, es, word);
+    let refusal = (out.number, out.place);
+    let floats = (out.low.to_bits(), out.high.to_bits());
+    let proved = (refusal, floats, [out.low_open, out.high_open, out.empty]);
+    let answer = reading::give_out(n, es, word);
+    let out = answer.value;
+    let floats = (out.low.to_bits(), out.high.to_bits());
+    let marks = [out.low_open, out.high_open, out.empty];
+    let place = u32::try_from(answer.place).ok();
+    let second = place.map(|place| ((answer.number, place), floats, marks));
+    agree(tally, "give_out", &(n, es, word), refusal, proved, second)
 }
 
 /// The three comparisons of two words.
