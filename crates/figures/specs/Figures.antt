@@ -15,13 +15,13 @@ abbrev pub exponentSize : ℕ
 exponentSize = 2
 
 -- a range by its end tiles
-abbrev closed : ℕ → ℕ
+abbrev pub closed : ℕ → ℕ
 closed p = 2 * p
 
-abbrev open-end : ℕ → ℕ
+abbrev pub open-end : ℕ → ℕ
 open-end p = 2 * p + 1
 
-abbrev word : ℕ → ℕ → ℕ
+abbrev pub word : ℕ → ℕ → ℕ
 word start end = wordOf width start end
 
 -- operation numbers
