@@ -4,6 +4,7 @@
 //! value beside them. Look at the number first: a refused posit is 0, which is also the posit 0.
 
 pub mod range;
+pub mod sheet;
 
 /// Number, place and a posit.
 #[repr(C)]

@@ -1,4 +1,5 @@
-// The calls on posits and ranges for programs in Rust and C: enums as document 01's numbers, answers as plain structs.
+// The calls on posits, ranges, columns and sheets for programs in Rust and C: enums as document 01's numbers, answers as plain structs.
+pub mod columns;
 pub mod compare;
 pub mod decode;
 pub mod encode;
@@ -11,4 +12,6 @@ pub mod range_operate;
 pub mod range_reading;
 pub mod range_shape;
 pub mod shape;
+pub mod sheet_shape;
+pub mod sheets;
 pub mod to_float;

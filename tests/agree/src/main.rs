@@ -18,6 +18,7 @@ mod range_refusals;
 mod ranges;
 mod readings;
 mod refusals;
+mod sheets;
 mod tally;
 
 use std::process::ExitCode;
@@ -27,7 +28,7 @@ use tally::Outcome;
 type Group = (&'static str, fn() -> Outcome);
 
 /// The groups in the order of their lines.
-const GROUPS: [Group; 19] = [
+const GROUPS: [Group; 21] = [
     ("bench figures and further cases", figures::every),
     ("published vectors", figures::vectors),
     ("patterns", patterns::every),
@@ -50,6 +51,8 @@ const GROUPS: [Group; 19] = [
     ("refusals of ranges", range_refusals::every),
     ("readings", readings::coming_in),
     ("ranges going out", readings::going_out),
+    ("columns", sheets::columns),
+    ("sheets", sheets::sheets),
 ];
 
 fn main() -> ExitCode {

@@ -18,13 +18,19 @@ pub type Outcome = Result<Tally, Difference>;
 #[derive(Default)]
 pub struct Tally {
     calls: BTreeMap<&'static str, u64>,
-    refusals: BTreeMap<(u32, u32), u64>,
+    refusals: BTreeMap<(u32, Option<u32>), u64>,
 }
 
 impl Tally {
-    pub fn count(&mut self, call: &'static str, refusal: (u32, u32)) {
+    pub fn count(&mut self, call: &'static str, (number, place): (u32, u32)) {
         *self.calls.entry(call).or_default() += 1;
-        *self.refusals.entry(refusal).or_default() += 1;
+        *self.refusals.entry((number, Some(place))).or_default() += 1;
+    }
+
+    /// One more call whose places are too many to list.
+    pub fn count_number(&mut self, call: &'static str, number: u32) {
+        *self.calls.entry(call).or_default() += 1;
+        *self.refusals.entry((number, None)).or_default() += 1;
     }
 }
 
@@ -36,7 +42,10 @@ impl fmt::Display for Tally {
             write!(f, ", {call} {count}")?;
         }
         for ((number, place), count) in &self.refusals {
-            write!(f, "; number {number}, place {place}: {count}")?;
+            match place {
+                Some(place) => write!(f, "; number {number}, place {place}: {count}")?,
+                None => write!(f, "; number {number}: {count}")?,
+            }
         }
         Ok(())
     }

@@ -1,0 +1,149 @@
+//! Columns and sheets at random, the lent column filled with a pattern before each call and compared whole after it.
+
+use crate::formats;
+use crate::picks;
+use crate::random::Random;
+use crate::tally::{Difference, Outcome, Tally};
+use jorumrain::sheet as proved;
+use second::{column, sheet};
+
+/// Columns and sheets of each of the 42 formats: a hundred thousand of each in all.
+const PER_FORMAT: u32 = 2_400;
+
+/// A word that no call writes by itself.
+const FILL: u64 = 0xdead_beef_0bad_f00d;
+
+pub fn columns() -> Outcome {
+    let mut tally = Tally::default();
+    let mut random = Random::new();
+    for (n, es) in formats::all() {
+        for _ in 0..PER_FORMAT {
+            let length = length(&mut random, 12);
+            let (left, right) = (words(&mut random, n, length), words(&mut random, n, length));
+            combine(&mut tally, &mut random, (n, es), &left, &right)?;
+        }
+        for length in [4095, 4096, 4097] {
+            let left = words(&mut random, n, length);
+            combine(&mut tally, &mut random, (n, es), &left, &left)?;
+        }
+    }
+    for (n, es) in formats::around_limits() {
+        combine(&mut tally, &mut random, (n, es), &[0], &[0])?;
+    }
+    Ok(tally)
+}
+
+/// One column call on both programs: sometimes with columns of unequal length, an operation past the last, or too little room.
+fn combine(
+    tally: &mut Tally,
+    random: &mut Random,
+    (n, es): (u32, u32),
+    left: &[u64],
+    right: &[u64],
+) -> Result<(), Difference> {
+    let operations = if random.below(8) == 0 { 256 } else { 4 };
+    let op = random.below(operations) as u8;
+    let cut = usize::from(random.below(32) == 0).min(right.len());
+    let right = &right[cut..];
+    let row = match random.below(64) {
+        0 => usize::MAX - random.below(3) as usize,
+        _ => random.below(6) as usize,
+    };
+    let room = (row.min(64) + left.len() + random.below(6) as usize).saturating_sub(1);
+    let (mut ours, mut theirs) = (vec![FILL; room], vec![FILL; room]);
+    let answer = proved::combine(n, es, op, left, right, row, &mut ours);
+    let other = column::combine(n, es, op.into(), left, right, row as u64, &mut theirs);
+    let got = (answer.number, answer.place.into(), answer.count.into());
+    let expected = (other.number, other.place, other.value);
+    let call = format!("{:?}", (n, es, op, left.len(), right.len(), row, room));
+    hold(tally, "combine", &call, got, expected, ours == theirs)
+}
+
+pub fn sheets() -> Outcome {
+    let mut tally = Tally::default();
+    let mut random = Random::new();
+    for (n, es) in formats::all() {
+        for _ in 0..PER_FORMAT {
+            work(&mut tally, &mut random, n, es)?;
+        }
+    }
+    for (n, es) in formats::around_limits() {
+        work(&mut tally, &mut random, n, es)?;
+    }
+    Ok(tally)
+}
+
+/// One sheet on both programs: shallow in most, of 64 steps and a few more in one of eight.
+fn work(tally: &mut Tally, random: &mut Random, n: u32, es: u32) -> Result<(), Difference> {
+    let bound = if random.below(16) == 0 { 34 } else { 6 };
+    let inputs = length(random, bound);
+    let inputs = words(random, n.clamp(3, 16), inputs);
+    let deep = random.below(8) == 0;
+    let count = if deep {
+        62 + random.below(5)
+    } else {
+        random.below(10)
+    };
+    let mut steps = Vec::new();
+    for step in 0..count {
+        let rows = inputs.len() as u64 + step + u64::from(random.below(256) == 0);
+        let op = [0, 0, 1, 1, 2, 2, 2, 3][random.below(8) as usize];
+        let op = if random.below(512) == 0 {
+            random.bits() as u8
+        } else {
+            op
+        };
+        steps.extend([op, earlier(random, rows), earlier(random, rows)]);
+    }
+    if random.below(64) == 0 {
+        steps.push(0);
+    }
+    let room = (inputs.len() + steps.len() / 3 + random.below(8) as usize).saturating_sub(1);
+    let (mut ours, mut theirs) = (vec![FILL; room], vec![FILL; room]);
+    let answer = proved::work(n, es, &inputs, &steps, &mut ours);
+    let other = sheet::work(n, es, &inputs, &steps, &mut theirs);
+    let got = (answer.number, answer.place.into(), answer.count.into());
+    let expected = (other.number, other.place, other.value);
+    let call = format!("{:?}", (n, es, &inputs, &steps, room));
+    hold(tally, "work", &call, got, expected, ours == theirs)
+}
+
+/// The same answer, and the same lent column.
+fn hold(
+    tally: &mut Tally,
+    name: &'static str,
+    call: &str,
+    got: (u32, u64, u64),
+    expected: (u32, u64, u64),
+    same_column: bool,
+) -> Result<(), Difference> {
+    if got != expected || !same_column {
+        let columns = if same_column { "equal" } else { "different" };
+        let answers = format!("proved {got:?}, second {expected:?}, {columns} columns");
+        return Err(Difference(format!("{name} {call}: {answers}")));
+    }
+    tally.count_number(name, got.0);
+    Ok(())
+}
+
+/// A row below the count, or 0 where there is none.
+fn earlier(random: &mut Random, rows: u64) -> u8 {
+    random.below(rows.max(1)) as u8
+}
+
+fn length(random: &mut Random, bound: u64) -> usize {
+    random.below(bound) as usize
+}
+
+/// Words of which most are real ranges: one that holds infinity is taken in one of sixteen.
+fn words(random: &mut Random, n: u32, count: usize) -> Vec<u64> {
+    let mut taken = Vec::new();
+    while taken.len() < count {
+        let (word, _) = picks::words(random, n);
+        let refused = second::range::negate(n, 0, word).number != 0;
+        if !refused || random.below(16) == 0 {
+            taken.push(word);
+        }
+    }
+    taken
+}
