@@ -1,8 +1,9 @@
-//! Prints two tables: nanoseconds per operation of the proved code, for posits plain Rust, and the second program.
+//! Prints three tables: nanoseconds per operation of the proved code, for posits plain Rust, and the second program; then columns and sheets.
 
 mod column;
 mod plain;
 mod ranges;
+mod sheets;
 mod stopwatch;
 
 use column::{Column, LENGTH};
@@ -25,6 +26,15 @@ fn main() {
         for column in ranges::of(n, es) {
             range_lines(&column);
         }
+    }
+    println!();
+    println!("| Format | Column of 4,096 products, a pair | As single calls | Sheet of 32 inputs and 64 steps |");
+    println!("|---|---|---|---|");
+    for (n, es) in [(8, 2), (16, 2)] {
+        let [column, ..] = ranges::of(n, es);
+        let [combined, single] = sheets::columns(&column);
+        let whole = sheets::full_sheet(&column);
+        println!("| ({n}, {es}) | {combined:.1} ns | {single:.1} ns | {whole:.1} µs |");
     }
 }
 
