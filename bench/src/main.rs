@@ -43,7 +43,7 @@ fn lines(column: &Column) {
     line(
         "decode",
         column,
-        |c, row| jorumrain::decode(c.n, c.es, c.left[row]),
+        |c, row| jorumrain::raw::decode(c.n, c.es, c.left[row]),
         |c, row| plain::decode(c.n, c.es, c.left[row]),
         |c, row| second::posit::decode(c.n, c.es, c.left[row].into()),
     );
@@ -52,10 +52,10 @@ fn lines(column: &Column) {
         column,
         |c, row| {
             let x = &c.numbers[row];
-            jorumrain::encode(
+            jorumrain::raw::encode(
                 c.n,
                 c.es,
-                jorumrain::FINITE,
+                jorumrain::raw::FINITE,
                 x.negative,
                 x.scale,
                 x.fraction,
@@ -66,7 +66,7 @@ fn lines(column: &Column) {
             plain::encode(
                 c.n,
                 c.es,
-                jorumrain::FINITE,
+                jorumrain::raw::FINITE,
                 x.negative,
                 x.scale,
                 x.fraction,
@@ -77,14 +77,14 @@ fn lines(column: &Column) {
     line(
         "compare",
         column,
-        |c, row| jorumrain::compare(c.n, c.es, c.left[row], c.right[row]),
+        |c, row| jorumrain::raw::compare(c.n, c.es, c.left[row], c.right[row]),
         |c, row| plain::compare(c.n, c.es, c.left[row], c.right[row]),
         |c, row| second::posit::compare(c.n, c.es, c.left[row].into(), c.right[row].into()),
     );
     line(
         "negate",
         column,
-        |c, row| jorumrain::negate(c.n, c.es, c.left[row]),
+        |c, row| jorumrain::raw::negate(c.n, c.es, c.left[row]),
         |c, row| plain::negate(c.n, c.es, c.left[row]),
         |c, row| second::posit::negate(c.n, c.es, c.left[row].into()),
     );
@@ -92,7 +92,7 @@ fn lines(column: &Column) {
         line(
             name,
             column,
-            |c, row| jorumrain::operate(c.n, c.es, op, c.left[row], c.right[row]),
+            |c, row| jorumrain::raw::operate(c.n, c.es, op, c.left[row], c.right[row]),
             |c, row| plain::operate(c.n, c.es, op, c.left[row], c.right[row]),
             |c, row| second_operation(c, op, row),
         );
@@ -127,7 +127,7 @@ fn line<T: PartialEq + Debug, U>(
 fn range_lines(column: &Ranges) {
     for (name, op) in [("add", 0), ("multiply", 2), ("divide", 3)] {
         let proved = |c: &Ranges, row: usize| {
-            jorumrain::range::operate(c.n, c.es, op, c.left[row], c.right[row])
+            jorumrain::raw::range::operate(c.n, c.es, op, c.left[row], c.right[row])
         };
         let second = |c: &Ranges, row: usize| {
             second::range::operate(c.n, c.es, op.into(), c.left[row], c.right[row])

@@ -3,8 +3,8 @@
 mod operate;
 mod sum;
 
-use jorumrain::{PositAnswer, PositComparison, PositDecoding};
-use jorumrain::{EQUAL, FINITE, GREATER, LESS, NAR, ZERO};
+use jorumrain::raw::{PositAnswer, PositComparison, PositDecoding};
+use jorumrain::raw::{EQUAL, FINITE, GREATER, LESS, NAR, ZERO};
 pub use operate::operate;
 
 /// Zero bits put below a fraction before it is located.

@@ -3,7 +3,7 @@
 use crate::column::LENGTH;
 use crate::ranges::Ranges;
 use crate::stopwatch::nanoseconds;
-use jorumrain::{range, sheet};
+use jorumrain::raw::{range, sheet};
 use std::cell::RefCell;
 use std::hint::black_box;
 

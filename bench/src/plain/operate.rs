@@ -2,7 +2,7 @@
 
 use super::sum::exact_sum;
 use super::{done, is_format, locate, negated, power32, refused, rounded, unpack, with_sign};
-use jorumrain::{PositAnswer, NAR, ZERO};
+use jorumrain::raw::{PositAnswer, NAR, ZERO};
 
 /// Zero bits put below a product and below a dividend.
 const PRODUCT_SPARE: u64 = 32;

@@ -2,7 +2,7 @@
 
 use super::operate::{Magnitude, OFFSET};
 use super::{highest_bit, power};
-use jorumrain::PositDecoding;
+use jorumrain::raw::PositDecoding;
 
 /// Below this a low word is narrow enough to be moved up by SPARE_BITS.
 const NARROW: u64 = 0x4000_0000_0000;

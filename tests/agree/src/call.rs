@@ -1,7 +1,7 @@
 //! One call on both programs: the second program's answer in the static library's shape, and both compared.
 
 use crate::tally::{Difference, Tally};
-use jorumrain::{PositAnswer, PositComparison, PositDecoding};
+use jorumrain::raw::{PositAnswer, PositComparison, PositDecoding};
 use second::float::{self, Floated};
 use second::posit::{self, Decoded};
 use second::refusal::Answer;
@@ -27,7 +27,7 @@ pub fn agree<T: PartialEq + Debug>(
 }
 
 pub fn decode(tally: &mut Tally, n: u32, es: u32, pattern: u32) -> Result<(), Difference> {
-    let proved = jorumrain::decode(n, es, pattern);
+    let proved = jorumrain::raw::decode(n, es, pattern);
     let second = shape_of_decoding(posit::decode(n, es, pattern.into()));
     let arguments = (n, es, pattern);
     let refusal = (proved.number, proved.place);
@@ -36,14 +36,14 @@ pub fn decode(tally: &mut Tally, n: u32, es: u32, pattern: u32) -> Result<(), Di
 
 pub fn encode(tally: &mut Tally, n: u32, es: u32, decoded: Decoded) -> Result<(), Difference> {
     match decoded {
-        Decoded::Zero => encode_as(tally, n, es, (jorumrain::ZERO, false, 0, 0), decoded),
-        Decoded::Nar => encode_as(tally, n, es, (jorumrain::NAR, false, 0, 0), decoded),
+        Decoded::Zero => encode_as(tally, n, es, (jorumrain::raw::ZERO, false, 0, 0), decoded),
+        Decoded::Nar => encode_as(tally, n, es, (jorumrain::raw::NAR, false, 0, 0), decoded),
         Decoded::Finite {
             negative,
             scale,
             fraction,
         } => {
-            let parts = (jorumrain::FINITE, negative, scale, fraction);
+            let parts = (jorumrain::raw::FINITE, negative, scale, fraction);
             encode_as(tally, n, es, parts, decoded)
         }
     }
@@ -58,7 +58,7 @@ pub fn encode_as(
     decoded: Decoded,
 ) -> Result<(), Difference> {
     let (kind, negative, scale, fraction) = parts;
-    let proved = jorumrain::encode(n, es, kind, negative, scale, fraction);
+    let proved = jorumrain::raw::encode(n, es, kind, negative, scale, fraction);
     let second = shape_of_posit(posit::encode(n, es, decoded));
     let arguments = (n, es, kind, negative, scale, fraction);
     let refusal = (proved.number, proved.place);
@@ -72,7 +72,7 @@ pub fn compare(
     left: u32,
     right: u32,
 ) -> Result<(), Difference> {
-    let proved = jorumrain::compare(n, es, left, right);
+    let proved = jorumrain::raw::compare(n, es, left, right);
     let second = shape_of_order(posit::compare(n, es, left.into(), right.into()));
     let arguments = (n, es, left, right);
     let refusal = (proved.number, proved.place);
@@ -80,7 +80,7 @@ pub fn compare(
 }
 
 pub fn negate(tally: &mut Tally, n: u32, es: u32, pattern: u32) -> Result<(), Difference> {
-    let proved = jorumrain::negate(n, es, pattern);
+    let proved = jorumrain::raw::negate(n, es, pattern);
     let second = shape_of_posit(posit::negate(n, es, pattern.into()));
     let arguments = (n, es, pattern);
     let refusal = (proved.number, proved.place);
@@ -95,7 +95,7 @@ pub fn operate(
     left: u32,
     right: u32,
 ) -> Result<(), Difference> {
-    let proved = jorumrain::operate(n, es, op, left, right);
+    let proved = jorumrain::raw::operate(n, es, op, left, right);
     let second = posit::operate(n, es, op.into(), left.into(), right.into());
     let arguments = (n, es, op, left, right);
     let refusal = (proved.number, proved.place);
@@ -104,7 +104,7 @@ pub fn operate(
 }
 
 pub fn from_float(tally: &mut Tally, n: u32, es: u32, x: f64) -> Result<(), Difference> {
-    let proved = jorumrain::from_float(n, es, x);
+    let proved = jorumrain::raw::from_float(n, es, x);
     let second = shape_of_posit(float::from_float(n, es, x));
     let arguments = (n, es, x.to_bits());
     let refusal = (proved.number, proved.place);
@@ -112,7 +112,7 @@ pub fn from_float(tally: &mut Tally, n: u32, es: u32, x: f64) -> Result<(), Diff
 }
 
 pub fn to_float(tally: &mut Tally, n: u32, es: u32, pattern: u32) -> Result<(), Difference> {
-    let proved = jorumrain::to_float(n, es, pattern);
+    let proved = jorumrain::raw::to_float(n, es, pattern);
     let refusal = (proved.number, proved.place);
     // Floats are compared by their bits, which tell +0.0 from -0.0.
     let proved = (refusal, proved.kind, proved.float.to_bits());
@@ -135,22 +135,22 @@ fn shape_of_order(answer: Answer<Ordering>) -> Option<PositComparison> {
         number: answer.number,
         place: answer.place.try_into().ok()?,
         order: match answer.value {
-            Ordering::Less => jorumrain::LESS,
-            Ordering::Equal => jorumrain::EQUAL,
-            Ordering::Greater => jorumrain::GREATER,
+            Ordering::Less => jorumrain::raw::LESS,
+            Ordering::Equal => jorumrain::raw::EQUAL,
+            Ordering::Greater => jorumrain::raw::GREATER,
         },
     })
 }
 
 fn shape_of_decoding(answer: Answer<Decoded>) -> Option<PositDecoding> {
     let (kind, negative, scale, fraction) = match answer.value {
-        Decoded::Zero => (jorumrain::ZERO, false, 0, 0),
-        Decoded::Nar => (jorumrain::NAR, false, 0, 0),
+        Decoded::Zero => (jorumrain::raw::ZERO, false, 0, 0),
+        Decoded::Nar => (jorumrain::raw::NAR, false, 0, 0),
         Decoded::Finite {
             negative,
             scale,
             fraction,
-        } => (jorumrain::FINITE, negative, scale, fraction),
+        } => (jorumrain::raw::FINITE, negative, scale, fraction),
     };
     Some(PositDecoding {
         number: answer.number,
@@ -164,8 +164,8 @@ fn shape_of_decoding(answer: Answer<Decoded>) -> Option<PositDecoding> {
 
 fn shape_of_float(answer: Answer<Floated>) -> Option<((u32, u32), u32, u64)> {
     let (kind, float) = match answer.value {
-        Floated::Value(float) => (jorumrain::FLOAT, float),
-        Floated::Nar => (jorumrain::NAR, 0.0),
+        Floated::Value(float) => (jorumrain::raw::FLOAT, float),
+        Floated::Nar => (jorumrain::raw::NAR, 0.0),
     };
     let refusal = (answer.number, answer.place.try_into().ok()?);
     Some((refusal, kind, float.to_bits()))

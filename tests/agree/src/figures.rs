@@ -2,7 +2,7 @@
 //! answers that stand written there.
 
 use crate::tally::{Difference, Outcome, Tally};
-use jorumrain::range::{self, RangeAnswer};
+use jorumrain::raw::range::{self, RangeAnswer};
 use std::fmt::Debug;
 
 const N: u32 = 8;
@@ -44,7 +44,7 @@ const RANGES: [(u8, &str, &str, &str); 7] = [
 pub fn every() -> Outcome {
     let mut tally = Tally::default();
     for (op, left, right, posit) in POSITS {
-        let answer = jorumrain::operate(N, ES, op, left, right);
+        let answer = jorumrain::raw::operate(N, ES, op, left, right);
         let expected = (0, 0, posit);
         let got = (answer.number, answer.place, answer.posit);
         hold(&mut tally, "operate", &(op, left, right), got, expected)?;

@@ -105,12 +105,12 @@ pub fn of_patterns() -> Outcome {
 
 /// What the proved code gives as a float it takes back to the same pattern.
 fn again(tally: &mut Tally, n: u32, es: u32, pattern: u32) -> Result<(), Difference> {
-    let floated = jorumrain::to_float(n, es, pattern);
-    if floated.kind == jorumrain::NAR {
+    let floated = jorumrain::raw::to_float(n, es, pattern);
+    if floated.kind == jorumrain::raw::NAR {
         return Ok(());
     }
     call::from_float(tally, n, es, floated.float)?;
-    let back = jorumrain::from_float(n, es, floated.float);
+    let back = jorumrain::raw::from_float(n, es, floated.float);
     if back.posit == pattern {
         return Ok(());
     }

@@ -20,8 +20,8 @@ pub fn every() -> Outcome {
 
 /// What the proved code decodes it encodes to the same pattern.
 fn again(n: u32, es: u32, pattern: u32) -> Result<(), Difference> {
-    let d = jorumrain::decode(n, es, pattern);
-    let back = jorumrain::encode(n, es, d.kind, d.negative, d.scale, d.fraction);
+    let d = jorumrain::raw::decode(n, es, pattern);
+    let back = jorumrain::raw::encode(n, es, d.kind, d.negative, d.scale, d.fraction);
     if back.posit == pattern {
         return Ok(());
     }

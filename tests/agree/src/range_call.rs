@@ -2,7 +2,7 @@
 
 use crate::call::agree;
 use crate::tally::{Difference, Tally};
-use jorumrain::range::{self as proved, RangeAnswer, RangeReply};
+use jorumrain::raw::range::{self as proved, RangeAnswer, RangeReply};
 use second::range;
 use second::reading::{self, Reading};
 use second::refusal::Answer;

@@ -4,7 +4,7 @@ use crate::formats;
 use crate::picks;
 use crate::random::Random;
 use crate::tally::{Difference, Outcome, Tally};
-use jorumrain::sheet as proved;
+use jorumrain::raw::sheet as proved;
 use second::{column, sheet};
 
 /// Columns and sheets of each of the 42 formats: a hundred thousand of each in all.

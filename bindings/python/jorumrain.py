@@ -1,0 +1,411 @@
+"""Jorumrain for Python: the proved calls on posits, ranges, columns and sheets, over ctypes.
+
+Posits are numbers of 3 to 16 bits; ranges (valids) have posits as their ends, each open or closed.
+Every call gives its value, or raises `Refused` with document 01's number and place; a refused call
+leaves all memory lent to it as it was. A format is a width n from 3 to 16 and an exponent size es
+from 0 to 2. A posit is an int below 2**n. A range is an int, its start tile * 2**(n+1) + its end
+tile, where a tile is a posit times 2, plus 1 for an open end.
+
+An int that does not fit the library's type for it (32 bits for n, es and a posit, 64 for a range, 8
+for an operation) raises ctypes.ArgumentError, and in a list OverflowError; it is never cut to its
+low bits.
+
+The library is the file named by the environment variable JORUMRAIN_LIBRARY, or else
+target/jorumrain/libjorumrain.so of the repository that this file stands in, which `./library` makes.
+
+    >>> import jorumrain as j
+    >>> hex(j.posit_operate(8, 2, j.Operation.ADD, 0x40, 0x40))
+    '0x48'
+    >>> j.range_give_out(8, 2, j.range_take_in(8, 2, 1.0, 2.0))
+    Outgoing(low=1.0, high=2.0, low_open=False, high_open=False, empty=False)
+"""
+
+import ctypes
+import enum
+import operator
+import os
+import pathlib
+from array import array
+from typing import NamedTuple, Optional
+
+__all__ = [
+    "Number", "Operation", "Kind", "Order", "Decoded", "Outgoing", "Refused",
+    "LONGEST_COLUMN", "MOST_INPUTS", "MOST_STEPS", "STEP_BYTES",
+    "posit_decode", "posit_encode", "posit_compare", "posit_negate", "posit_operate",
+    "posit_from_float", "posit_to_float",
+    "range_negate", "range_operate", "range_take_in", "range_give_out",
+    "range_inside", "range_meets", "range_below",
+    "columns_combine", "sheet_work",
+]
+
+# ---- Numbers with names
+
+
+class Number(enum.IntEnum):
+    """The numbers a call may come back with; `words` says when each is given."""
+
+    DONE = 0
+    OUTSIDE_LIMITS = 1
+    NO_OPERATION = 2
+    TOO_LARGE = 3
+    HOLDS_INFINITY = 4
+    ZERO_DIVISOR = 5
+    BAD_READING = 6
+    WRONG_LENGTH = 7
+    NOT_EARLIER = 8
+    NO_ROOM = 9
+    BAD_FILE = 10
+
+    @property
+    def words(self):
+        """Document 01's words."""
+        return _WORDS[self]
+
+
+_WORDS = (
+    "done",
+    "n or es outside the format limits",
+    "operation number above 3",
+    "posit of 2^n or more, or range word of 2^(2n+2) or more",
+    "the range holds infinity",
+    "the divisor range has 0 as a member",
+    "a reading with a NaN, low +infinity, high -infinity, or low above high",
+    "columns of unequal length or over 4,096; over 32 inputs or 64 steps; "
+    "a step list that is no whole number of steps",
+    "a step names a row that isn't earlier",
+    "the named row (0 for a sheet) plus the words to be written exceeds the lent column's length",
+    "file shorter than 9 bytes, mark or version wrong, or wrong length",
+)
+
+
+class Operation(enum.IntEnum):
+    """The operations; a call takes any int and refuses one above 3."""
+
+    ADD = 0
+    SUBTRACT = 1
+    MULTIPLY = 2
+    DIVIDE = 3
+
+
+class Kind(enum.IntEnum):
+    """The kinds of a decoded posit; NaR ("not a real") is what a division by zero gives."""
+
+    ZERO = 0
+    NAR = 1
+    FINITE = 2
+
+
+class Order(enum.IntEnum):
+    """How a posit compares with another."""
+
+    LESS = 0
+    EQUAL = 1
+    GREATER = 2
+
+
+LONGEST_COLUMN = 4096
+MOST_INPUTS = 32
+MOST_STEPS = 64
+STEP_BYTES = 3
+
+# ---- What calls give
+
+
+class Refused(Exception):
+    """A call refused: its `number`, from 1 to 10, and the `place` that the number speaks of.
+
+    The place is 0 or 1 for the left and the right operand of a single call, the pair of a column, or
+    the row of a sheet; a refusal that names no place has 0.
+    """
+
+    def __init__(self, number, place):
+        super().__init__(number, place)
+        self.number = Number(number)
+        self.place = place
+
+    def __str__(self):
+        return f"refused {self.number:d} at place {self.place}: {self.number.words}"
+
+
+class Decoded(NamedTuple):
+    """A decoded posit: a finite one is fraction * 2**scale, negated where `negative` is set."""
+
+    kind: Kind
+    negative: bool = False
+    scale: int = 0
+    fraction: int = 0
+
+
+class Outgoing(NamedTuple):
+    """A range as two exact floats.
+
+    Unbounded ends are the infinities, open, and an empty range is 0.0 twice, both open.
+    """
+
+    low: float
+    high: float
+    low_open: bool
+    high_open: bool
+    empty: bool
+
+
+# ---- The library and its declarations, which tests/header holds to the crate cabi
+
+
+def _whole(name, kind, least, greatest):
+    """A parameter of one of C's whole numbers that refuses an int outside it, as ctypes by itself does not."""
+
+    def from_param(cls, value):
+        value = operator.index(value)
+        if not least <= value <= greatest:
+            raise OverflowError(f"{value} is outside {least} to {greatest}")
+        return kind(value)
+
+    return type(name, (), {"kind": kind, "from_param": classmethod(from_param)})
+
+
+_U8 = _whole("_U8", ctypes.c_uint8, 0, 2**8 - 1)
+_U32 = _whole("_U32", ctypes.c_uint32, 0, 2**32 - 1)
+_I32 = _whole("_I32", ctypes.c_int32, -(2**31), 2**31 - 1)
+_U64 = _whole("_U64", ctypes.c_uint64, 0, 2**64 - 1)
+_SIZE = _whole("_SIZE", ctypes.c_size_t, 0, 2 ** (8 * ctypes.sizeof(ctypes.c_size_t)) - 1)
+_LENGTH = ctypes.c_size_t
+_BOOL = ctypes.c_bool
+_F64 = ctypes.c_double
+_BYTES = ctypes.c_char_p
+_COLUMN = ctypes.POINTER(ctypes.c_uint64)
+
+
+def _answer(name, **values):
+    """The struct of an answer: number, place and the values."""
+    fields = [("number", ctypes.c_uint32), ("place", ctypes.c_uint32), *values.items()]
+    return type(name, (ctypes.Structure,), {"_fields_": fields})
+
+
+_PositAnswer = _answer("PositAnswer", posit=ctypes.c_uint32)
+_PositDecoding = _answer(
+    "PositDecoding",
+    kind=ctypes.c_uint32,
+    negative=ctypes.c_bool,
+    scale=ctypes.c_int32,
+    fraction=ctypes.c_uint32,
+)
+_PositComparison = _answer("PositComparison", order=ctypes.c_uint32)
+_PositFloating = _answer("PositFloating", kind=ctypes.c_uint32, float=ctypes.c_double)
+_RangeAnswer = _answer("RangeAnswer", word=ctypes.c_uint64)
+_RangeReply = _answer("RangeReply", yes=ctypes.c_bool)
+_RangeOutgoing = _answer(
+    "RangeOutgoing",
+    low=ctypes.c_double,
+    high=ctypes.c_double,
+    low_open=ctypes.c_bool,
+    high_open=ctypes.c_bool,
+    empty=ctypes.c_bool,
+)
+_SheetAnswer = _answer("SheetAnswer", count=ctypes.c_uint32)
+
+
+def _load():
+    """The library, from JORUMRAIN_LIBRARY or from target/jorumrain of the repository."""
+    root = pathlib.Path(__file__).resolve().parents[2]
+    built = root / "target" / "jorumrain" / "libjorumrain.so"
+    path = os.environ.get("JORUMRAIN_LIBRARY") or built
+    try:
+        return ctypes.CDLL(os.fspath(path))
+    except OSError as error:
+        advice = "run ./library at the repository's root, or name the file in JORUMRAIN_LIBRARY"
+        raise OSError(f"{error}: {advice}") from None
+
+
+_library = _load()
+
+
+def _call(name, result, *parameters):
+    """An exported call, which gives its answer or raises Refused."""
+    call = _library[name]
+    call.argtypes = parameters
+    call.restype = result
+    call.errcheck = _hold
+    return call
+
+
+def _hold(answer, _call, arguments):
+    """The answer where its number is 0."""
+    del arguments  # A refusal that is kept would else hold the caller's arrays at their size.
+    if answer.number:
+        raise Refused(answer.number, answer.place)
+    return answer
+
+
+_posit_decode = _call("jorumrain_posit_decode", _PositDecoding, _U32, _U32, _U32)
+_posit_encode = _call("jorumrain_posit_encode", _PositAnswer, _U32, _U32, _U32, _BOOL, _I32, _U32)
+_posit_compare = _call("jorumrain_posit_compare", _PositComparison, _U32, _U32, _U32, _U32)
+_posit_negate = _call("jorumrain_posit_negate", _PositAnswer, _U32, _U32, _U32)
+_posit_operate = _call("jorumrain_posit_operate", _PositAnswer, _U32, _U32, _U8, _U32, _U32)
+_posit_from_float = _call("jorumrain_posit_from_float", _PositAnswer, _U32, _U32, _F64)
+_posit_to_float = _call("jorumrain_posit_to_float", _PositFloating, _U32, _U32, _U32)
+_range_negate = _call("jorumrain_range_negate", _RangeAnswer, _U32, _U32, _U64)
+_range_operate = _call("jorumrain_range_operate", _RangeAnswer, _U32, _U32, _U8, _U64, _U64)
+_range_take_in = _call("jorumrain_range_take_in", _RangeAnswer, _U32, _U32, _F64, _F64)
+_range_give_out = _call("jorumrain_range_give_out", _RangeOutgoing, _U32, _U32, _U64)
+_range_inside = _call("jorumrain_range_inside", _RangeReply, _U32, _U32, _U64, _U64)
+_range_meets = _call("jorumrain_range_meets", _RangeReply, _U32, _U32, _U64, _U64)
+_range_below = _call("jorumrain_range_below", _RangeReply, _U32, _U32, _U64, _U64)
+_columns_combine = _call(
+    "jorumrain_columns_combine", _SheetAnswer,
+    _U32, _U32, _U8, _COLUMN, _LENGTH, _COLUMN, _LENGTH, _SIZE, _COLUMN, _LENGTH,
+)  # fmt: skip
+_sheet_work = _call(
+    "jorumrain_sheet_work", _SheetAnswer,
+    _U32, _U32, _COLUMN, _LENGTH, _BYTES, _LENGTH, _COLUMN, _LENGTH,
+)  # fmt: skip
+
+# ---- Posits
+
+
+def posit_decode(n: int, es: int, posit: int) -> Decoded:
+    """The posit decoded; a finite one always with an odd fraction. Refused: 1; 3."""
+    answer = _posit_decode(n, es, posit)
+    return Decoded(Kind(answer.kind), answer.negative, answer.scale, answer.fraction)
+
+
+def posit_encode(n: int, es: int, decoded: Decoded) -> int:
+    """The posit that a decoded one rounds to; a fraction of 0 is zero. Refused: 1."""
+    kind, negative, scale, fraction = decoded
+    return _posit_encode(n, es, kind, negative, scale, fraction).posit
+
+
+def posit_compare(n: int, es: int, left: int, right: int) -> Order:
+    """How left compares with right; NaR equals itself and is below all else. Refused: 1; 3 left, 3 right."""
+    return Order(_posit_compare(n, es, left, right).order)
+
+
+def posit_negate(n: int, es: int, posit: int) -> int:
+    """The negative of a posit; zero and NaR stay. Refused: 1; 3."""
+    return _posit_negate(n, es, posit).posit
+
+
+def posit_operate(n: int, es: int, operation: int, left: int, right: int) -> int:
+    """The operation's exact result rounded; NaR and a zero divisor give NaR. Refused: 1; 2; 3 left, 3 right."""
+    return _posit_operate(n, es, operation, left, right).posit
+
+
+def posit_from_float(n: int, es: int, x: float) -> int:
+    """The float's exact value rounded; a NaN and the infinities give NaR. Refused: 1."""
+    return _posit_from_float(n, es, x).posit
+
+
+def posit_to_float(n: int, es: int, posit: int) -> Optional[float]:
+    """The posit's exact value, or None for NaR; zero is +0.0. Refused: 1; 3."""
+    answer = _posit_to_float(n, es, posit)
+    return None if answer.kind == Kind.NAR else answer.float
+
+
+# ---- Ranges
+
+
+def range_negate(n: int, es: int, word: int) -> int:
+    """The range of the negatives. Refused: 1; 3 and 4."""
+    return _range_negate(n, es, word).word
+
+
+def range_operate(n: int, es: int, operation: int, left: int, right: int) -> int:
+    """The smallest range of every exact result of one member from each.
+
+    Refused: 1; 2; 3 and 4 left; 3 and 4 right; 5.
+    """
+    return _range_operate(n, es, operation, left, right).word
+
+
+def range_take_in(n: int, es: int, low: float, high: float) -> int:
+    """The smallest range of all rationals from low to high; the infinities mean unbounded. Refused: 1; 6."""
+    return _range_take_in(n, es, low, high).word
+
+
+def range_give_out(n: int, es: int, word: int) -> Outgoing:
+    """The range as floats. Refused: 1; 3 and 4."""
+    answer = _range_give_out(n, es, word)
+    return Outgoing(answer.low, answer.high, answer.low_open, answer.high_open, answer.empty)
+
+
+def range_inside(n: int, es: int, left: int, right: int) -> bool:
+    """Whether each member of left is in right. Refused: 1; 3 and 4 left; 3 and 4 right."""
+    return _range_inside(n, es, left, right).yes
+
+
+def range_meets(n: int, es: int, left: int, right: int) -> bool:
+    """Whether some member is in both. Refused as `range_inside`."""
+    return _range_meets(n, es, left, right).yes
+
+
+def range_below(n: int, es: int, left: int, right: int) -> bool:
+    """Whether each member of left is less than each of right. Refused as `range_inside`."""
+    return _range_below(n, es, left, right).yes
+
+
+# ---- Columns and sheets
+
+
+def columns_combine(n: int, es: int, operation: int, left, right, row: int, lent) -> int:
+    """One operation on two columns, pair by pair: answer i goes to lent[row + i]; the count of answers comes back.
+
+    A column is an array('Q') or a list of ints. An array is worked in place, with no copy of any word,
+    so that a full column costs what the inner call costs, to within a few percent; a list is copied
+    into an array first, and a lent list takes its new words after the call. All other words of the
+    lent column stay. An input that is also the lent column is copied, so that it is read as it was.
+
+    Refused, with the lent column as it was: 1; 2; 7; 9; then, with the pair as place, 3 and 4 for its
+    left, 3 and 4 for its right, and 5.
+    """
+    words, left, right = _lent(lent), _column(left, lent), _column(right, lent)
+    answer = _columns_combine(
+        n, es, operation, *_slice(left), *_slice(right), row, *_slice(words)
+    )
+    return _handed_back(lent, words, row, answer.count)
+
+
+def sheet_work(n: int, es: int, inputs, steps: bytes, lent) -> int:
+    """A sheet worked: its rows, the inputs first, go to the first words of lent; the count of rows comes back.
+
+    A step is three bytes, or ints in a list: an operation and two earlier rows; it adds a row. Inputs
+    and the lent column are each an array('Q'), worked in place, or a list, which is copied, as for
+    `columns_combine`. The words of the lent column after the rows stay.
+
+    Refused, with the lent column as it was: 1; 7; 9; then, with the row as place, 3 and 4 for an
+    input, and 2, 8 and 5 for a step.
+    """
+    words, inputs, steps = _lent(lent), _column(inputs, lent), bytes(iter(steps))
+    answer = _sheet_work(n, es, *_slice(inputs), steps, len(steps), *_slice(words))
+    return _handed_back(lent, words, 0, answer.count)
+
+
+def _lent(lent):
+    """A lent array itself, or a copy of a lent list."""
+    if isinstance(lent, list):
+        return array("Q", lent)
+    if _is_words(lent):
+        return lent
+    raise TypeError("a lent column is an array('Q') or a list")
+
+
+def _column(column, lent):
+    """An array itself, or a copy of anything else and of the lent column, since lent memory must lie apart."""
+    if _is_words(column) and column is not lent:
+        return column
+    return array("Q", list(column))
+
+
+def _is_words(column):
+    return isinstance(column, array) and column.typecode == "Q"
+
+
+def _slice(words):
+    """An array's memory and length, held so that the array cannot move while the call runs."""
+    return (ctypes.c_uint64 * len(words)).from_buffer(words), len(words)
+
+
+def _handed_back(lent, words, row, count):
+    """The count, once the words written are in a lent list too."""
+    if words is not lent:
+        lent[row : row + count] = words[row : row + count]
+    return count

@@ -1,6 +1,0 @@
--- The plain shape of the column and sheet calls' answers.
-use Rattle.sheet.specs.declared.counted.Counted.{Counted}
-use Rattle.link.specs.declared.sheet_shape.SheetAnswer.{SheetAnswer}
-
-abbrev pub ofCounted : Counted → SheetAnswer
-ofCounted x = record { number = x .number; place = x .place; count = x .count }
