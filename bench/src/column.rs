@@ -1,4 +1,4 @@
-//! The input of a measurement: columns of patterns and of numbers to encode, the same in every run.
+//! The input of a measurement: columns of patterns, of numbers to encode and of floats, the same in every run.
 
 use second::posit::Decoded;
 
@@ -10,6 +10,7 @@ pub struct Column {
     pub left: Vec<u32>,
     pub right: Vec<u32>,
     pub numbers: Vec<Number>,
+    pub floats: Vec<f64>,
 }
 
 /// A number to encode: sign, scale and fraction.
@@ -38,7 +39,8 @@ impl Column {
             es,
             left: rows.clone().map(|row| pattern(2 * row)).collect(),
             right: rows.clone().map(|row| pattern(2 * row + 1)).collect(),
-            numbers: rows.map(|row| number(n, es, mixed(row))).collect(),
+            numbers: rows.clone().map(|row| number(n, es, mixed(row))).collect(),
+            floats: rows.map(|row| float(n, es, mixed(row))).collect(),
         }
     }
 }
@@ -52,6 +54,13 @@ fn number(n: u32, es: u32, bits: u64) -> Number {
         scale: scale as i32 - m as i32 - 31,
         fraction: bits as u32 | 1 << 31,
     }
+}
+
+/// A float of 53 bits between minPos and maxPos, which nearly always has to be rounded.
+fn float(n: u32, es: u32, bits: u64) -> f64 {
+    let m = u64::from(second::format::reach(n, es));
+    let exponent = 1023 - m + (bits >> 53) % (2 * m);
+    f64::from_bits((bits & 1) << 63 | exponent << 52 | bits >> 1 & ((1 << 52) - 1))
 }
 
 /// Bits that look random, by the finisher of splitmix.

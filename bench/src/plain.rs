@@ -1,8 +1,11 @@
 //! The posit calls in plain Rust, by the steps of the proved code, without proofs.
 
+mod float;
 mod operate;
+pub mod range;
 mod sum;
 
+pub use float::{from_float, to_float};
 use jorumrain::raw::{PositAnswer, PositComparison, PositDecoding};
 use jorumrain::raw::{EQUAL, FINITE, GREATER, LESS, NAR, ZERO};
 pub use operate::operate;

@@ -5,12 +5,29 @@ use crate::column::{mixed, LENGTH};
 pub struct Ranges {
     pub n: u32,
     pub es: u32,
-    pub name: &'static str,
+    pub kind: Kind,
     pub left: Vec<u64>,
     pub right: Vec<u64>,
 }
 
-/// What a column's left ranges start at; the right ones are above 0, so that they divide.
+#[derive(Clone, Copy)]
+pub enum Kind {
+    OneSign,
+    MixedSign,
+    WithZeros,
+}
+
+impl Kind {
+    pub fn name(self) -> &'static str {
+        match self {
+            Kind::OneSign => "one sign",
+            Kind::MixedSign => "mixed sign",
+            Kind::WithZeros => "with zeros",
+        }
+    }
+}
+
+/// What ranges start at; no right one has 0 as a member, so that they divide.
 #[derive(Clone, Copy)]
 enum Start {
     Above,
@@ -21,19 +38,19 @@ enum Start {
 /// The three columns of a format.
 pub fn of(n: u32, es: u32) -> [Ranges; 3] {
     [
-        made(n, es, "one sign", Start::Above, Start::Above),
-        made(n, es, "mixed sign", Start::Below, Start::Above),
-        made(n, es, "with zeros", Start::Zero, Start::Zero),
+        made(n, es, Kind::OneSign, Start::Above, Start::Above),
+        made(n, es, Kind::MixedSign, Start::Below, Start::Above),
+        made(n, es, Kind::WithZeros, Start::Zero, Start::Zero),
     ]
 }
 
-fn made(n: u32, es: u32, name: &'static str, left: Start, right: Start) -> Ranges {
+fn made(n: u32, es: u32, kind: Kind, left: Start, right: Start) -> Ranges {
     let rows = 0..LENGTH as u64;
     let words = |start, side| rows.clone().map(move |row| word(n, start, 2 * row + side));
     Ranges {
         n,
         es,
-        name,
+        kind,
         left: words(left, 0).collect(),
         right: words(right, 1).collect(),
     }

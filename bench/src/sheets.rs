@@ -1,47 +1,71 @@
-//! A column of 4,096 pairs beside as many single calls, and a full sheet of 32 inputs and 64 steps.
+//! Full sheets of 32 inputs and 64 steps: what one costs, in time and in stack.
 
 use crate::column::LENGTH;
-use crate::ranges::Ranges;
+use crate::ranges::{self, Ranges};
+use crate::stack;
 use crate::stopwatch::nanoseconds;
-use jorumrain::raw::{range, sheet};
+use jorumrain::raw::sheet::{self, SheetAnswer};
 use std::cell::RefCell;
-use std::hint::black_box;
 
-const MULTIPLY: u8 = 2;
 const INPUTS: usize = 32;
 const STEPS: usize = 64;
 
-/// Nanoseconds a pair of the column call and of single calls, for products.
-pub fn columns(ranges: &Ranges) -> [f64; 2] {
-    let lent = RefCell::new(vec![0; LENGTH]);
-    let (n, es) = (ranges.n, ranges.es);
-    let column = || {
-        let lent = &mut lent.borrow_mut();
-        let answer = sheet::combine(n, es, MULTIPLY, &ranges.left, &ranges.right, 0, lent);
-        assert_eq!(answer.number, 0);
-    };
-    let single = || {
-        let lent = &mut lent.borrow_mut();
-        for row in 0..LENGTH {
-            let answer = range::operate(n, es, MULTIPLY, ranges.left[row], ranges.right[row]);
-            lent[row] = black_box(answer).word;
-        }
-    };
-    nanoseconds([&column, &single])
+/// Half of the inputs come from the left column and half from the right one, whose ranges divide.
+const HALF: usize = INPUTS / 2;
+
+pub struct Sheet {
+    n: u32,
+    es: u32,
+    inputs: Vec<u64>,
+    steps: Vec<u8>,
+    lent: Vec<u64>,
+    answer: SheetAnswer,
 }
 
-/// Microseconds of a full sheet that adds, subtracts and multiplies rows of the column.
-pub fn full_sheet(ranges: &Ranges) -> f64 {
-    let inputs = &ranges.left[..INPUTS];
-    let steps: Vec<u8> = (0..STEPS as u8)
-        .flat_map(|step| [step % 3, step % 32, (step * 7) % 32])
-        .collect();
-    let lent = RefCell::new(vec![0; INPUTS + STEPS]);
-    let work = || {
-        let lent = &mut lent.borrow_mut();
-        let answer = sheet::work(ranges.n, ranges.es, inputs, &steps, lent);
-        assert_eq!(answer.number, 0);
-    };
-    let [per_row] = nanoseconds([&work]);
+impl Sheet {
+    /// All four operations in turn, each of an earlier row and an input that divides.
+    pub fn full(ranges: &Ranges) -> Sheet {
+        let inputs = [&ranges.left[..HALF], &ranges.right[..HALF]].concat();
+        let step = |step| [step % 4, 7 * step % (INPUTS + step), HALF + 5 * step % HALF];
+        let steps = (0..STEPS).flat_map(step).map(|byte| byte as u8);
+        Sheet {
+            n: ranges.n,
+            es: ranges.es,
+            inputs,
+            steps: steps.collect(),
+            lent: vec![0; INPUTS + STEPS],
+            answer: SheetAnswer {
+                number: 0,
+                place: 0,
+                count: 0,
+            },
+        }
+    }
+
+    pub fn work(&mut self) {
+        self.answer = sheet::work(self.n, self.es, &self.inputs, &self.steps, &mut self.lent);
+    }
+
+    pub fn assert_done(&self) {
+        assert_eq!(self.answer.number, 0, "place {}", self.answer.place);
+    }
+}
+
+pub fn print(formats: &[(u32, u32)]) {
+    println!("| Format | Ranges | Sheet of 32 inputs and 64 steps | Its stack |");
+    println!("|---|---|---|---|");
+    for (n, es) in formats {
+        for column in ranges::of(*n, *es) {
+            let (time, stack) = (microseconds(&column), stack::of_sheet(&column));
+            let (format, kind) = ((n, es), column.kind.name());
+            println!("| {format:?} | {kind} | {time:.1} µs | {stack} bytes |");
+        }
+    }
+}
+
+fn microseconds(ranges: &Ranges) -> f64 {
+    let sheet = RefCell::new(Sheet::full(ranges));
+    let [per_row] = nanoseconds([&|| sheet.borrow_mut().work()]);
+    sheet.borrow().assert_done();
     per_row * LENGTH as f64 / 1000.0
 }

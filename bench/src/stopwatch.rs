@@ -1,12 +1,13 @@
 //! Nanoseconds per operation: the best of several rounds of passes over a column.
 
 use crate::column::LENGTH;
+use std::hint::black_box;
 use std::time::{Duration, Instant};
 
-const ROUNDS: u32 = 40;
+const ROUNDS: u32 = 60;
 
-/// A round takes at least so long, or one pass.
-const ROUND: Duration = Duration::from_millis(5);
+/// A round takes at least so long, or one pass: short enough that some rounds are left alone on a busy machine.
+const ROUND: Duration = Duration::from_millis(1);
 
 /// The programs take their rounds in turn, so that what else the machine does falls on all of them.
 pub fn nanoseconds<const COUNT: usize>(passes: [&dyn Fn(); COUNT]) -> [f64; COUNT] {
@@ -16,6 +17,14 @@ pub fn nanoseconds<const COUNT: usize>(passes: [&dyn Fn(); COUNT]) -> [f64; COUN
         best = std::array::from_fn(|i| best[i].min(measured[i]));
     }
     best
+}
+
+/// The call on each row of the column once.
+pub fn pass<C, T>(column: &C, call: impl Fn(&C, usize) -> T) {
+    let column = black_box(column);
+    for row in 0..LENGTH {
+        black_box(call(column, row));
+    }
 }
 
 fn round(pass: &dyn Fn()) -> f64 {

@@ -113,7 +113,7 @@ fn divide(n: u32, es: u32, p: u32, q: u32) -> u32 {
     round(n, es, x.negative != y.negative, quotient)
 }
 
-fn round(n: u32, es: u32, negative: bool, x: Magnitude) -> u32 {
+pub fn round(n: u32, es: u32, negative: bool, x: Magnitude) -> u32 {
     let (floor, exact) = locate(n, es, x.g, x.s, x.a);
     with_sign(n, negative, rounded(n, floor, exact && !x.lost))
 }
