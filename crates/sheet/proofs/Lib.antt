@@ -3,6 +3,10 @@ pub mod Blocks
 pub mod Verdicts
 pub mod Limits
 pub mod Copies
+pub mod LowFirst
+pub mod Parts
+pub mod FileTests
+pub mod FileLayout
 pub mod Pairs
 pub mod Steps
 pub mod Written
@@ -13,3 +17,4 @@ pub mod ColumnVerdict
 pub mod ColumnTruth
 pub mod SheetVerdict
 pub mod SheetTruth
+pub mod FileVerdict

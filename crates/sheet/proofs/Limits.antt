@@ -69,7 +69,7 @@ sheet-fits {n} {es} {inputs} {bytes} {lent} p =
     }
 
 -- ---- and back
-format-passes : {n es : ℕ} → Format n es → not (isFormat n es) ≡ false
+pub format-passes : {n es : ℕ} → Format n es → not (isFormat n es) ≡ false
 format-passes {n} {es} f = rw (le-leb 3 n (f .wide-enough), le-leb n 16 (f .not-too-wide), le-leb es 2 (f .exponent-fits))
 
 pub column-passing : {n es op left right row lent : ℕ} → ColumnFits n es op left right row lent → Passing (columnLimits n es op left right row lent)

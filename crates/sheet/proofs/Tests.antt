@@ -87,6 +87,14 @@ pub refusal-stays : (ts us : List Test) → Refusal (firstHit ts) → firstHit (
 refusal-stays [] us d = absurd (d (number-of none-hits))
 refusal-stays (t ∷ ts) us d = refusal-more t ts us (refusal-stays ts us) d
 
+-- where two lists come to number 0, the first one passes
+pub first-passes : {ts : List Test} → Refusing ts → (us : List Test) → firstHit (ts ++ us) .number ≡ 0 → Passing ts
+first-passes {ts} r us z = go (firstHit ts .number) refl
+  where
+    go : (k : ℕ) → firstHit ts .number ≡ k → Passing ts
+    go zero e = passing-of r e
+    go (suc k) e = let d : Refusal (firstHit ts) = (λ y. suc-ne-zero k (sym e ∙ y)) in absurd (d (number-of (sym (refusal-stays ts us d)) ∙ z))
+
 -- ---- a refusal is what one of the tests gives
 module _ (P : Verdict → Type 0) (t : Test) (ts : List Test) (g : P (t .gives)) (rest : Refusal (firstHit ts) → P (firstHit ts)) where
   given-more : Refusal (firstHit (t ∷ ts)) → P (firstHit (t ∷ ts))

@@ -1,4 +1,4 @@
--- What a column call or a sheet call has, in full, exactly where it is done.
+-- What a column call, a sheet call or a file call has, in full, exactly where it is done.
 use mathlib.Core.Path.{_≡_}
 use mathlib.Core.Bool.{false}
 use mathlib.Core.List.{List}
@@ -9,6 +9,7 @@ use Rattle.posit.specs.Format.{Format}
 use Rattle.range.specs.Member.{Real}
 use Rattle.sheet.specs.Refusal.{longestColumn, mostInputs, mostSteps, stepBytes, holdsZero}
 use Rattle.sheet.specs.Sheet.{Step, noStep, stepsOf, rowsOf}
+use Rattle.sheet.specs.File.{headBytes, version, versionOf, widthOf, exponentSizeOf, inputCount, stepCount, lengthOf, inputsPart, stepsPart}
 use Rattle.sheet.specs.Working.{Reals}
 
 -- ---- columns: their lengths, and each pair
@@ -51,3 +52,19 @@ pub record SheetAccepted (n es : ℕ) (inputs bytes : List ℕ) (lent : ℕ) : T
   pub fits : SheetFits n es (length inputs) (length bytes) lent
   pub inputs-real : Reals n inputs
   pub step-fits : (k : ℕ) → k < length (stepsOf bytes) → StepFits n es (rowsBefore n es inputs (stepsOf bytes) k) (getD (stepsOf bytes) k noStep)
+
+-- ---- files: the head, the counts and the length, and then the sheet
+pub record FileFits (file : List ℕ) : Type 0 where
+  pub head : headBytes ≤ length file
+  pub mark-first : getD file 0 0 ≡ 0x52
+  pub mark-second : getD file 1 0 ≡ 0x53
+  pub mark-third : getD file 2 0 ≡ 0x48
+  pub version-one : versionOf file ≡ version
+  pub format : Format (widthOf file) (exponentSizeOf file)
+  pub few-inputs : inputCount file ≤ mostInputs
+  pub few-steps : stepCount file ≤ mostSteps
+  pub whole : length file ≡ lengthOf (inputCount file) (stepCount file)
+
+pub record FileAccepted (file : List ℕ) (lent : ℕ) : Type 0 where
+  pub fits : FileFits file
+  pub sheet : SheetAccepted (widthOf file) (exponentSizeOf file) (inputsPart file) (stepsPart file) lent

@@ -10,3 +10,5 @@ pub const WRONG_LENGTH: u32 = 7;
 pub const NOT_EARLIER: u32 = 8;
 
 pub const NO_ROOM: u32 = 9;
+
+pub const BAD_FILE: u32 = 10;

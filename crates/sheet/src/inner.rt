@@ -1,4 +1,5 @@
-// The tests of columns and sheets, and the words that they write.
+// The tests of columns, sheets and files, and the words that they write.
+pub mod layout;
 pub mod limits;
 pub mod pairs;
 pub mod steps;

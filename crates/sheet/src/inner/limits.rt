@@ -23,7 +23,7 @@ pub const MOST_STEPS: usize = 64;
 pub const STEP_BYTES: usize = 3;
 
 // A number at place 0.
-fn at_start(number: u32) -> Judged
+pub fn at_start(number: u32) -> Judged
     ensures { λ r. ⌜ (r .number ≡ number) × (r .place ≡ 0) ⌝ }
 {
     Judged {
