@@ -270,6 +270,15 @@ SheetAnswer jorumrain_sheet_work(uint32_t n, uint32_t es,
                                  const uint8_t *steps, size_t steps_length,
                                  uint64_t *lent, size_t lent_length);
 
+/* Works the sheet of a sheet file, whose bytes are: the mark "RSH"; version 1 in two bytes, low byte
+ * first; n, es, the count of inputs and the count of steps, a byte each; the inputs in 8 bytes each,
+ * low byte first; the steps in JORUMRAIN_STEP_BYTES bytes each. Rows, count and lent column are as for
+ * jorumrain_sheet_work.
+ * Refused: 10 at place 0 for under 9 bytes, the mark or the version; 1, 7, and 10 for the length, all
+ * at place 0; then 9 and the rest as for jorumrain_sheet_work. */
+SheetAnswer jorumrain_file_work(const uint8_t *file, size_t file_length,
+                                uint64_t *lent, size_t lent_length);
+
 #ifdef __cplusplus
 }
 #endif

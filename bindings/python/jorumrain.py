@@ -35,7 +35,7 @@ __all__ = [
     "posit_from_float", "posit_to_float",
     "range_negate", "range_operate", "range_take_in", "range_give_out",
     "range_inside", "range_meets", "range_below",
-    "columns_combine", "sheet_work",
+    "columns_combine", "sheet_work", "file_work",
 ]
 
 # ---- Numbers with names
@@ -259,6 +259,7 @@ _sheet_work = _call(
     "jorumrain_sheet_work", _SheetAnswer,
     _U32, _U32, _COLUMN, _LENGTH, _BYTES, _LENGTH, _COLUMN, _LENGTH,
 )  # fmt: skip
+_file_work = _call("jorumrain_file_work", _SheetAnswer, _BYTES, _LENGTH, _COLUMN, _LENGTH)
 
 # ---- Posits
 
@@ -376,6 +377,17 @@ def sheet_work(n: int, es: int, inputs, steps: bytes, lent) -> int:
     """
     words, inputs, steps = _lent(lent), _column(inputs, lent), bytes(iter(steps))
     answer = _sheet_work(n, es, *_slice(inputs), steps, len(steps), *_slice(words))
+    return _handed_back(lent, words, 0, answer.count)
+
+
+def file_work(file: bytes, lent) -> int:
+    """The sheet of a sheet file worked; lent column and count as for `sheet_work`, n and es stand in the file.
+
+    Refused, with the lent column as it was: 10 for under 9 bytes, the mark or the version; 1; 7; 10 for
+    the length; 9; then, with the row as place, 3 and 4 for an input, and 2, 8 and 5 for a step.
+    """
+    words, file = _lent(lent), bytes(iter(file))
+    answer = _file_work(file, len(file), *_slice(words))
     return _handed_back(lent, words, 0, answer.count)
 
 

@@ -197,6 +197,27 @@ class Sheets(Calls):
             j.sheet_work(N, ES, self.inputs, 3, lent)
 
 
+class Files(Calls):
+    # Document 01's example.
+    file = bytes.fromhex(
+        "52 53 48 01 00 08 02 02 02"
+        "90 00 01 00 00 00 00 00 98 30 01 00 00 00 00 00"
+        "00 00 00 03 00 01"
+    )
+
+    def test_example(self):
+        rows = [ONE_TO_TWO, THREE_ONLY, word(0x90, 0xA0), word(0x65, 0x77)]
+        for lent in ([OLD] * 5, array("Q", [OLD] * 5)):
+            self.assertEqual((j.file_work(self.file, lent), list(lent)), (4, [*rows, OLD]))
+
+    def test_refused(self):
+        for lent in ([OLD] * 3, array("Q", [OLD] * 3)):
+            self.refused(Number.BAD_FILE, 0, j.file_work, b"", lent)
+            self.refused(Number.BAD_FILE, 0, j.file_work, self.file[:-1], lent)
+            self.refused(Number.NO_ROOM, 0, j.file_work, self.file, lent)
+            self.assertEqual(list(lent), [OLD] * 3)
+
+
 class Words(unittest.TestCase):
     def test_a_refusal_says_its_number_in_words(self):
         text = "refused 5 at place 1: the divisor range has 0 as a member"

@@ -233,6 +233,30 @@ static void sheets(void) {
     HOLD(s.count == 0);
 }
 
+static void files(void) {
+    /* Document 01's example. */
+    const uint8_t file[] = {0x52, 0x53, 0x48, 0x01, 0x00, 0x08, 0x02, 0x02, 0x02, 0x90, 0x00,
+                            0x01, 0x00, 0x00, 0x00, 0x00, 0x00, 0x98, 0x30, 0x01, 0x00, 0x00,
+                            0x00, 0x00, 0x00, 0x00, 0x00, 0x00, 0x03, 0x00, 0x01};
+    uint64_t lent[] = {OLD, OLD, OLD, OLD, OLD};
+
+    SheetAnswer s = jorumrain_file_work(file, sizeof file - 1, lent, 5);
+    IS(s, JORUMRAIN_BAD_FILE, 0u);
+    HOLD(s.count == 0);
+    s = jorumrain_file_work(NULL, 0, lent, 5);
+    IS(s, JORUMRAIN_BAD_FILE, 0u);
+    s = jorumrain_file_work(file, sizeof file, lent, 3);
+    IS(s, JORUMRAIN_NO_ROOM, 0u);
+    hold_old(lent, 0, 5);
+
+    s = jorumrain_file_work(file, sizeof file, lent, 5);
+    DONE(s);
+    HOLD(s.count == 4);
+    HOLD(lent[0] == ONE_TO_TWO && lent[1] == THREE_ONLY);
+    HOLD(lent[2] == WORD(0x90, 0xa0) && lent[3] == WORD(0x65, 0x77));
+    hold_old(lent, 4, 5);
+}
+
 int main(void) {
     decode_and_encode();
     compare_negate_and_operate();
@@ -241,6 +265,7 @@ int main(void) {
     comparisons_of_ranges();
     columns();
     sheets();
+    files();
     puts("every call answers and refuses as expected");
     return 0;
 }

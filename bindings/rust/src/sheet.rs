@@ -56,6 +56,15 @@ pub fn work(
     count(raw::work(n, es, inputs, &bytes[..length], lent))
 }
 
+/// The sheet of a sheet file worked: rows, lent column and count as for `work`; n and es stand in the file.
+///
+/// Refused, with every word of the lent column as it was: 10 for under 9 bytes, the mark or the
+/// version; 1; 7; 10 for the length; then 9, and with the row as place 3 and 4 for an input, and 2, 8
+/// and 5 for a step.
+pub fn work_file(file: &[u8], lent: &mut [u64]) -> Result<usize, Refusal> {
+    count(raw::work_file(file, lent))
+}
+
 fn count(answer: raw::SheetAnswer) -> Result<usize, Refusal> {
     answered(answer.number, answer.place, answer.count as usize)
 }

@@ -217,6 +217,30 @@ fn refused_sheets_keep_the_lent_memory() {
     refuse(&INPUTS, &[difference, step(Divide, 0, 2)], ZERO_DIVISOR, 3);
 }
 
+/// Document 01's example file.
+const FILE: [u8; 31] = [
+    0x52, 0x53, 0x48, 0x01, 0x00, 0x08, 0x02, 0x02, 0x02, 0x90, 0x00, 0x01, 0x00, 0x00, 0x00, 0x00,
+    0x00, 0x98, 0x30, 0x01, 0x00, 0x00, 0x00, 0x00, 0x00, 0x00, 0x00, 0x00, 0x03, 0x00, 0x01,
+];
+
+#[test]
+fn files_are_worked() {
+    let mut lent = [OLD; 5];
+    refused(sheet::work_file(&FILE[..30], &mut lent), BAD_FILE, 0);
+    refused(sheet::work_file(&FILE[..8], &mut lent), BAD_FILE, 0);
+    refused(sheet::work_file(&FILE, &mut lent[..3]), NO_ROOM, 0);
+    assert_eq!(lent, [OLD; 5]);
+    assert_eq!(sheet::work_file(&FILE, &mut lent), Ok(4));
+    let rows = [
+        ONE_TO_TWO,
+        THREE_ONLY,
+        0x90 << 9 | 0xa0,
+        0x65 << 9 | 0x77,
+        OLD,
+    ];
+    assert_eq!(lent, rows);
+}
+
 #[test]
 fn a_refusal_says_its_number_in_words() {
     let text = Refusal {

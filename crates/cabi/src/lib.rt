@@ -3,6 +3,7 @@ pub mod columns;
 pub mod compare;
 pub mod decode;
 pub mod encode;
+pub mod files;
 pub mod from_float;
 pub mod negate;
 pub mod operate;

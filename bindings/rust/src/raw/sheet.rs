@@ -34,6 +34,13 @@ unsafe extern "C" {
         lent: *mut u64,
         lent_length: usize,
     ) -> SheetAnswer;
+
+    fn jorumrain_file_work(
+        file: *const u8,
+        file_length: usize,
+        lent: *mut u64,
+        lent_length: usize,
+    ) -> SheetAnswer;
 }
 
 /// One operation on two columns, pair by pair, into a lent column from a row on.
@@ -78,4 +85,10 @@ pub fn work(n: u32, es: u32, inputs: &[u64], steps: &[u8], lent: &mut [u64]) -> 
             lent.len(),
         )
     }
+}
+
+/// The sheet of a sheet file; its rows go into the lent column.
+pub fn work_file(file: &[u8], lent: &mut [u64]) -> SheetAnswer {
+    // SAFETY: each pointer and length is that of a slice, and the lent one is borrowed alone.
+    unsafe { jorumrain_file_work(file.as_ptr(), file.len(), lent.as_mut_ptr(), lent.len()) }
 }
