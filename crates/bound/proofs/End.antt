@@ -13,7 +13,7 @@ use Rattle.bound.proofs.Placing.{Placing, placed, allowed-iff-placed, o
 
 module _ {O : Order} (G : Grid O) where
   -- ---- cells from below and from above
-  from-below : Placing O (G .count) (G .value) (λ k. 2 * k + 1) (cell G)
+  pub from-below : Placing O (G .count) (G .value) (λ k. 2 * k + 1) (cell G)
   from-below =
       record {
         odd = λ k h. omega arith;
@@ -21,7 +21,7 @@ module _ {O : Order} (G : Grid O) where
         to-value = λ a k h. cell-is-cell G a .to-value k h;
       }
 
-  from-above : Placing (dual O) (G .count) (G .value) (λ k. 2 * G .count - (2 * k + 1)) (λ a. 2 * G .count - cell G a)
+  pub from-above : Placing (dual O) (G .count) (G .value) (λ k. 2 * G .count - (2 * k + 1)) (λ a. 2 * G .count - cell G a)
   from-above =
       record {
         odd = λ k h. omega arith;

@@ -18,6 +18,7 @@ pub mod CellHull
 pub mod Smallest
 pub mod Placing
 pub mod End
+pub mod Standing
 pub mod Range
 pub mod NegateRange
 pub mod RangeArithmetic

@@ -40,3 +40,4 @@ pub mod Operations
 pub mod FloatOrder
 pub mod Readings
 pub mod GoingOut
+pub mod Ends

@@ -1,5 +1,6 @@
 -- The smallest real range that holds a set of fractions, and where its ends stand.
 use mathlib.Core.Path.{_≡_}
+use mathlib.Core.Logic.{_≢_}
 use Prim.Native.Nat.{ℕ}
 use lib.IntN.{pos}
 use Rattle.exact.specs.Fraction.{Fraction, _≈_, whole}
@@ -8,7 +9,7 @@ use Rattle.bound.specs.Bound.{Bound, map-bound}
 use Rattle.bound.specs.End.{Stands}
 use Rattle.bound.specs.Fractions.{fractions}
 use Rattle.posit.specs.Arithmetic.{divide, exactResult}
-use Rattle.range.specs.Word.{emptyWord, startOf, endOf}
+use Rattle.range.specs.Word.{kind, empty, emptyWord, startOf, endOf}
 use Rattle.range.specs.Member.{Real, Member, Inside}
 use Rattle.range.specs.Numbered.{count, numberOf, valueAt}
 
@@ -25,6 +26,13 @@ StartStands n es S b = Stands fractions (count n) (valueAt n es) S (map-bound (n
 
 abbrev pub EndStands : ℕ → ℕ → (Fraction → Type 0) → Bound ℕ → Type 0
 EndStands n es S b = Stands (dual fractions) (count n) (valueAt n es) S (map-bound (numberOf n) b)
+
+-- w is a real range that is not empty, and both its ends stand where they must
+pub record DemandedEnds (n es : ℕ) (S : Fraction → Type 0) (w : ℕ) : Type 0 where
+  pub real : Real n w
+  pub not-empty : kind n w ≢ empty
+  pub start-stands : StartStands n es S (startOf n w)
+  pub end-stands : EndStands n es S (endOf n w)
 
 -- w is the answer for the exact results S
 pub record IsAnswer (n es : ℕ) (S : Fraction → Type 0) (w : ℕ) : Type 0 where

@@ -11,7 +11,8 @@ pub mod Pairs
 pub mod Steps
 pub mod Written
 pub mod Rows
-pub mod Members
+pub mod ExactRows
+pub mod Depends
 pub mod WrittenAt
 pub mod ColumnVerdict
 pub mod ColumnTruth

@@ -1,16 +1,17 @@
--- An accepted sheet is true: whatever fraction is picked from each input range, the exact work meets no zero divisor and every row's exact value
--- lies in that row's range; and each computed row is the answer for its two operand rows.
-use mathlib.Core.Path.{_≡_, sym, ap, _∙_, subst}
+-- An accepted sheet is true: whatever fraction is picked from each input range that a row depends on, its exact work meets no zero divisor and its
+-- exact value lies in its range; and each computed row is the answer for its two operand rows.
+use mathlib.Core.Path.{_≡_, refl, sym, ap, _∙_, subst}
 use mathlib.Core.Bool.{false}
 use mathlib.Core.Logic.{_↔_}
-use mathlib.Core.List.{List, [], _∷_}
-use Prim.Native.Nat.{ℕ, _+_, _<_}
+use mathlib.Core.List.{List}
+use Prim.Native.Nat.{ℕ, zero, suc, _+_, _-_, _<_}
+use native.Mathlib.Decide.{decLt}
 use native.Mathlib.Omega.{arith}
 use lib.ListN.{length, getD, take}
 use lib.Seq.{length-take-le, getD-take}
 use Rattle.exact.specs.Fraction.{Fraction, _≈_}
 use Rattle.bound.proofs.Extent.{NoMember}
-use Rattle.posit.specs.Arithmetic.{divide}
+use Rattle.posit.specs.Arithmetic.{divide, exactResult}
 use Rattle.posit.specs.Format.{Format}
 use Rattle.posit.specs.Refusal.{done, firstHit}
 use Rattle.range.specs.Member.{Member}
@@ -21,16 +22,17 @@ use Rattle.range.proofs.Empty.{empty-answer-iff}
 use Rattle.range.proofs.Sheets.{no-zero-member, result-in-answer}
 use Rattle.sheet.specs.declared.counted.Counted.{Counted}
 use Rattle.sheet.specs.Refusal.{wordTests, holdsZero}
-use Rattle.sheet.specs.Accepted.{StepFits, SheetAccepted, rowsBefore}
-use Rattle.sheet.specs.Sheet.{Step, noStep, stepsOf, rowsOf, withRow, stepTests, stepsTests, verdictOfSheet}
-use Rattle.sheet.specs.Exact.{nought, withExact, exactRows, NoZeroDivisor, no-step, next-step, Members}
+use Rattle.sheet.specs.Accepted.{SheetAccepted, rowsBefore}
+use Rattle.sheet.specs.Sheet.{Step, noStep, stepsOf, rowsOf, verdictOfSheet}
+use Rattle.sheet.specs.Depends.{DependsOn, itself, by-left, by-right}
+use Rattle.sheet.specs.Exact.{nought, exactRows, DivisorNotZero, NoZeroDivisor, Members, MembersFor, RowTrue}
 use Rattle.sheet.specs.Working.{Reals}
 use Rattle.sheet.specs.Written.{Writes}
-use Rattle.sheet.proofs.Tests.{Passing, passing-parts, passing-done}
+use Rattle.sheet.proofs.Tests.{passing-done}
 use Rattle.sheet.proofs.Verdicts.{real-passing}
-use Rattle.sheet.proofs.Steps.{step-fits}
-use Rattle.sheet.proofs.Rows.{length-rows, length-steps, rows-real, rows-kept, row-is}
-use Rattle.sheet.proofs.Members.{members-more}
+use Rattle.sheet.proofs.Rows.{length-rows, length-steps, rows-real, rows-kept, row-kept, row-is}
+use Rattle.sheet.proofs.ExactRows.{length-exact, exact-kept, exact-is}
+use Rattle.sheet.proofs.Depends.{depends-further}
 use Rattle.sheet.proofs.WrittenAt.{written-at}
 use Rattle.sheet.proofs.SheetVerdict.{steps-pass, sheet-done-exactly}
 
@@ -38,28 +40,6 @@ use Rattle.sheet.proofs.SheetVerdict.{steps-pass, sheet-done-exactly}
 divisor-apart : (n es w : ℕ) → holdsZero n es w ≡ false → (x : Fraction) → Member n es w x → ¬ (x ≈ nought)
 unfolding holdsZero
 divisor-apart n es w h = no-zero-member n es w h
-
--- ---- one step, and then all
-module _ {n es : ℕ} (f : Format n es) where
-  divisor-not-zero : {rows : List ℕ} {xs : List Fraction} {s : Step} → Members n es rows xs → StepFits n es rows s
-      → s .operation ≡ divide → ¬ (getD xs (s .right) nought ≈ nought)
-  divisor-not-zero {rows} {s = s} m fit d = divisor-apart n es (getD rows (s .right) 0) (fit .divisor d) _ (m .member (s .right) (fit .right-earlier))
-
-  step-true : {rows : List ℕ} {xs : List Fraction} {s : Step} → Members n es rows xs → StepFits n es rows s → Members n es (withRow n es rows s) (withExact xs s)
-  step-true {rows} {xs} {s} m fit =
-      members-more m
-      (result-in-answer n es (s .operation) _ _ (f .wide-enough) (fit .operation) (m .member (s .left) (fit .left-earlier)) (m .member (s .right) (fit .right-earlier))
-      (divisor-not-zero {rows = rows} {xs = xs} {s = s} m fit))
-
-  pub steps-true : (rows : List ℕ) (xs : List Fraction) (steps : List Step) → Members n es rows xs → Passing (stepsTests n es rows steps)
-      → NoZeroDivisor xs steps × Members n es (rowsOf n es rows steps) (exactRows xs steps)
-  unfolding stepsTests rowsOf exactRows
-  steps-true rows xs [] m p = (no-step, m)
-  steps-true rows xs (s ∷ steps) m p =
-      let q = passing-parts (stepTests n es rows s) p in
-      let fit = step-fits {n = n} {es = es} {rows = rows} {s = s} (q .0) in
-      let rest = steps-true (withRow n es rows s) (withExact xs s) steps (step-true {rows = rows} {xs = xs} {s = s} m fit) (q .1) in
-      (next-step (divisor-not-zero {rows = rows} {xs = xs} {s = s} m fit) (rest .0), rest .1)
 
 module _ {n es : ℕ} (inputs bytes : List ℕ) (lent : ℕ) (a : SheetAccepted n es inputs bytes lent) where
   abbrev steps : List Step
@@ -97,10 +77,84 @@ module _ {n es : ℕ} (inputs bytes : List ℕ) (lent : ℕ) (a : SheetAccepted 
       ∙ ap (λ (w : ℕ). answerOf n es (s .operation) w (getD (rowsBefore n es inputs steps k) (s .right) 0)) (getD-take (length inputs + k) rows (s .left) 0 (left-row-earlier k h))
       ∙ ap (λ (w : ℕ). answerOf n es (s .operation) (getD rows (s .left) 0) w) (getD-take (length inputs + k) rows (s .right) 0 (right-row-earlier k h))
 
-  -- ---- demand 3: pick any fraction from each input range
+  -- ---- demand 3, one row: pick any fraction from each input range that the row depends on
+  divisor-clear : (k : ℕ) → k < length steps → getD steps k noStep .operation ≡ divide → holdsZero n es (getD rows (getD steps k noStep .right) 0) ≡ false
+  divisor-clear k h d =
+      let right = getD steps k noStep .right in
+      subst (λ (w : ℕ). holdsZero n es w ≡ false) (getD-take (length inputs + k) rows right 0 (right-row-earlier k h)) (a .step-fits k h .divisor d)
+
+  module _ (xs : List Fraction) (many : length xs ≡ length inputs) where
+    abbrev exact : List Fraction
+    exact = exactRows xs steps
+
+    abbrev InRow : ℕ → Type 0
+    InRow row = Member n es (getD rows row 0) (getD exact row nought)
+
+    exact-computed : (k : ℕ) → k < length steps → let s = getD steps k noStep in
+        getD exact (length inputs + k) nought ≡ exactResult (s .operation) (getD exact (s .left) nought) (getD exact (s .right) nought)
+    exact-computed k h =
+        let s = getD steps k noStep in
+        subst (λ (m : ℕ). getD exact (m + k) nought ≡ exactResult (s .operation) (getD exact (s .left) nought) (getD exact (s .right) nought)) many
+        (exact-is xs steps k h (omega (arith, left-row-earlier k h)) (omega (arith, right-row-earlier k h)))
+
+    input-in-row : (i : ℕ) → i < length inputs → Member n es (getD inputs i 0) (getD xs i nought) → InRow i
+    input-in-row i h m = rw (row-kept n es inputs steps i h, exact-kept xs steps i (omega arith)) m
+
+    divisor-not-zero : (k : ℕ) → k < length steps → InRow (getD steps k noStep .right) → DivisorNotZero xs steps k
+    divisor-not-zero k h m d = divisor-apart n es (getD rows (getD steps k noStep .right) 0) (divisor-clear k h d) _ m
+
+    step-in-row : (k : ℕ) → k < length steps → InRow (getD steps k noStep .left) → InRow (getD steps k noStep .right) → InRow (length inputs + k)
+    step-in-row k h l r =
+        rw (row-computed k h, exact-computed k h)
+        (result-in-answer n es (getD steps k noStep .operation) _ _ (a .fits .format .wide-enough) (a .step-fits k h .operation) l r (divisor-not-zero k h r))
+
+    abbrev Picked : ℕ → Type 0
+    Picked row = (i : ℕ) → i < length inputs → DependsOn (length inputs) steps row i → Member n es (getD inputs i 0) (getD xs i nought)
+
+    -- a row by the rows before it, and so every row
+    next-in-row : (row : ℕ) → row < length inputs + length steps → ((r : ℕ) → r < row → Picked r → InRow r) → Picked row → InRow row
+    next-in-row row h before pick = go (decLt row (length inputs))
+      where
+        go : Dec (row < length inputs) → InRow row
+        go (yes i) = input-in-row row i (pick row i itself)
+        go (no i) =
+            let k = row - length inputs in
+            let e : row ≡ length inputs + k = omega arith in
+            let f : k < length steps = omega arith in
+            let s = getD steps k noStep in
+            rw e
+            (step-in-row k f
+            (before (s .left) (omega (arith, left-row-earlier k f)) (λ j q d. pick j q (by-left e f d)))
+            (before (s .right) (omega (arith, right-row-earlier k f)) (λ j q d. pick j q (by-right e f d))))
+
+    in-row : (m row : ℕ) → row < m → row < length inputs + length steps → Picked row → InRow row
+    in-row zero row l h pick = absurd (omega arith)
+    in-row (suc m) row l h pick = next-in-row row h (λ r q. in-row m r (omega arith) (omega arith)) pick
+
+  pub row-true : (row : ℕ) → row < length inputs + length (stepsOf bytes) → (xs : List Fraction) → MembersFor n es row inputs (stepsOf bytes) xs
+      → RowTrue n es row inputs (stepsOf bytes) xs
+  row-true row h xs m =
+      record {
+        no-zero-divisor = λ k i d.
+            let r = right-row-earlier k i in
+            divisor-not-zero xs (m .as-many) k i
+            (in-row xs (m .as-many) _ (getD steps k noStep .right) r (omega (arith, r)) (λ j q e. m .member j q (depends-further d (by-right refl i e))));
+        member = in-row xs (m .as-many) (suc row) row (omega arith) h (m .member);
+      }
+
+  -- ---- and the whole sheet: pick any fraction from each input range
   pub sheet-true : (xs : List Fraction) → Members n es inputs xs
       → NoZeroDivisor xs (stepsOf bytes) × Members n es (rowsOf n es inputs (stepsOf bytes)) (exactRows xs (stepsOf bytes))
-  sheet-true xs m = steps-true (a .fits .format) inputs xs steps m (steps-pass n es inputs bytes lent a)
+  sheet-true xs m = (
+    λ k h. each (length inputs + k) (omega arith) .no-zero-divisor k h itself,
+    record {
+      as-many = omega (arith, length-exact xs steps, length-rows n es inputs steps, m .as-many);
+      member = λ row h. each row (omega (arith, length-rows n es inputs steps)) .member;
+    },
+  )
+    where
+      each : (row : ℕ) → row < length inputs + length steps → RowTrue n es row inputs steps xs
+      each row h = row-true row h xs (record { as-many = m .as-many; member = λ i q d. m .member i q })
 
   -- a computed row is the answer for its two operand ranges, taken as independent
   pub row-answered : (k : ℕ) → k < length (stepsOf bytes) → let s = getD (stepsOf bytes) k noStep in let all = rowsOf n es inputs (stepsOf bytes) in

@@ -3,6 +3,7 @@ pub mod Written
 pub mod Column
 pub mod Sheet
 pub mod File
+pub mod Depends
 pub mod Exact
 pub mod Working
 pub mod Accepted

@@ -13,6 +13,10 @@ const PER_FORMAT: u32 = 2_400;
 /// A word that no call writes by itself.
 const FILL: u64 = 0xdead_beef_0bad_f00d;
 
+/// The numbers that a column and a sheet may come back with.
+const OF_COLUMNS: [u32; 8] = [0, 1, 2, 3, 4, 5, 7, 9];
+const OF_SHEETS: [u32; 9] = [0, 1, 2, 3, 4, 5, 7, 8, 9];
+
 pub fn columns() -> Outcome {
     let mut tally = Tally::default();
     let mut random = Random::new();
@@ -30,7 +34,7 @@ pub fn columns() -> Outcome {
     for (n, es) in formats::around_limits() {
         combine(&mut tally, &mut random, (n, es), &[0], &[0])?;
     }
-    Ok(tally)
+    tally.with_every(&OF_COLUMNS)
 }
 
 /// One column call on both programs: sometimes with columns of unequal length, an operation past the last, or too little room.
@@ -70,7 +74,7 @@ pub fn sheets() -> Outcome {
     for (n, es) in formats::around_limits() {
         work(&mut tally, &mut random, n, es)?;
     }
-    Ok(tally)
+    tally.with_every(&OF_SHEETS)
 }
 
 /// One sheet on both programs: shallow in most, of 64 steps and a few more in one of eight.
@@ -135,6 +139,16 @@ fn length(random: &mut Random, bound: u64) -> usize {
     random.below(bound) as usize
 }
 
+/// The word itself in most: one in some hundreds gets a bit that must be zero.
+fn too_long(random: &mut Random, n: u32, word: u64) -> u64 {
+    if random.below(256) != 0 {
+        return word;
+    }
+    let length = u64::from(2 * n + 2);
+    let bit = length + random.below(64 - length);
+    word | (1 << bit)
+}
+
 /// Words of which most are real ranges: one that holds infinity is taken in one of sixteen.
 fn words(random: &mut Random, n: u32, count: usize) -> Vec<u64> {
     let mut taken = Vec::new();
@@ -142,7 +156,7 @@ fn words(random: &mut Random, n: u32, count: usize) -> Vec<u64> {
         let (word, _) = picks::words(random, n);
         let refused = second::range::negate(n, 0, word).number != 0;
         if !refused || random.below(16) == 0 {
-            taken.push(word);
+            taken.push(too_long(random, n, word));
         }
     }
     taken

@@ -32,6 +32,16 @@ impl Tally {
         *self.calls.entry(call).or_default() += 1;
         *self.refusals.entry((number, None)).or_default() += 1;
     }
+
+    /// The outcome of a group that must have seen each of these numbers.
+    pub fn with_every(self, numbers: &[u32]) -> Outcome {
+        for number in numbers {
+            if !self.refusals.keys().any(|(seen, _)| seen == number) {
+                return Err(Difference(format!("no call came back with {number}")));
+            }
+        }
+        Ok(self)
+    }
 }
 
 impl fmt::Display for Tally {
