@@ -19,6 +19,8 @@ use Rattle.exact.proofs.Quotient.{/ᶠ-≤ᶠ, ≤ᶠ-/ᶠ, /ᶠ-<ᶠ, <ᶠ-/�
 use Rattle.exact.proofs.OverPower.{overPower-*ᶠ, overPower-pos-≤ᶠ, overPower-pos-<ᶠ}
 use Rattle.posit.specs.Locating.{given}
 use Rattle.posit.specs.Magnitudes.{SmallForm, Within, QuotientOf}
+use Rattle.posit.specs.declared.inner.normal.Normal.{Normal}
+use Rattle.posit.specs.Normals.{IsNormal, normalBits, NormalQuotient}
 use Rattle.posit.proofs.SmallScale.{lifted, lifted-most}
 use Rattle.posit.proofs.Exactly.{within-respects, in-units}
 
@@ -132,4 +134,28 @@ module _ {s t : ℤ} {g h : ℕ} (x : SmallForm s g) (y : SmallForm t h) where
               scale-down = omega (arith, lifted-most y);
             };
         within = within-respects (≈-sym (/ᶠ-cong (in-units x) (in-units y))) (quotient-within g h (lifted s) (lifted t) 47 56 (y .some));
+      }
+
+-- ---- in normal form
+module _ (es : ℕ) {x y : Normal} (o : IsNormal x) (q : IsNormal y) where
+  normal-enough : 2 ^ 29 ≤ x .g * 2 ^ 30 / y .g
+  normal-enough = le-div-iff-mul-le {k = y .g} {x = 2 ^ 29} {y = x .g * 2 ^ 30} (omega (arith, q .at-least)) .1 (omega (arith, o .at-least, q .less))
+
+  normal-not-too-many : x .g * 2 ^ 30 / y .g < 2 ^ 60
+  normal-not-too-many = omega (arith, o .less, div-le-self (x .g * 2 ^ 30) (y .g))
+
+  pub normal-quotient-known :
+      NormalQuotient es x y
+      (record { g = x .g * 2 ^ 30 / y .g; s = x .e; a = y .e + 30; lost = not (eqb (x .g * 2 ^ 30 % y .g) 0) })
+  unfolding quotient rest
+  normal-quotient-known =
+      record {
+        words =
+            record {
+              enough = omega (arith, normal-enough);
+              not-too-many = omega (arith, normal-not-too-many);
+              scale-up = omega (arith, o .scale-fits);
+              scale-down = omega (arith, q .scale-fits);
+            };
+        within = quotient-within (x .g) (y .g) (x .e) (y .e) 30 (normalBits es) (omega (arith, q .at-least));
       }

@@ -37,10 +37,10 @@ module _ (N u j g s t : ℕ) (parts : N * 2 ^ j ≡ g * 2 ^ s + t) (rest : t < 2
         more-than-it = λ h. overPower-pos-<ᶠ (u + j) u .1 (rw scaled-up (mul-lt-mul-of-pos-right (omega (arith, some h)) (pow-pos u)));
       }
 
-nothing-lost : (t : ℕ) → not (eqb t 0) ≡ false → t ≡ 0
+pub nothing-lost : (t : ℕ) → not (eqb t 0) ≡ false → t ≡ 0
 nothing-lost t e = eqb-true t 0 (not-false (eqb t 0) e)
 
-something-lost : (t : ℕ) → not (eqb t 0) ≡ true → 0 < t
+pub something-lost : (t : ℕ) → not (eqb t 0) ≡ true → 0 < t
 something-lost t e = pos-of-ne-zero (eqb-false t 0 (not-true (eqb t 0) e))
 
 -- ---- a number of two words over 2^56, whose high word is 0: a narrow one moved up, any other cut by its last two bits

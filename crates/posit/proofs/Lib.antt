@@ -27,6 +27,7 @@ pub mod Place
 pub mod Bracketed
 pub mod FromBrackets
 pub mod Bounds
+pub mod Chosen
 pub mod LocatesBy
 pub mod RoundedOf
 pub mod FromFloor
@@ -34,6 +35,7 @@ pub mod Apart
 pub mod SmallForm
 pub mod SmallScale
 pub mod Exactly
+pub mod NormalForm
 pub mod KnownProduct
 pub mod KnownQuotient
 pub mod RoundKnown
@@ -47,6 +49,9 @@ pub mod TwoWords
 pub mod KnownWide
 pub mod Summed
 pub mod Added
+pub mod Alignment
+pub mod OneWord
+pub mod NormalSummed
 pub mod Calls
 pub mod Operations
 pub mod ScalePlace

@@ -27,7 +27,7 @@ pub sign-twice : (b : Bool) (z : Fraction) → withSignᶠ b (withSignᶠ b z) �
 sign-twice true z = negᶠ-negᶠ z
 sign-twice false z = ≈-refl z
 
-sign-other : (b : Bool) (z : Fraction) → withSignᶠ (not b) (withSignᶠ b z) ≈ negᶠ z
+pub sign-other : (b : Bool) (z : Fraction) → withSignᶠ (not b) (withSignᶠ b z) ≈ negᶠ z
 sign-other true z = ≈-refl (negᶠ z)
 sign-other false z = ≈-refl (negᶠ z)
 
@@ -39,11 +39,11 @@ pub sign-cong : (b : Bool) {y z : Fraction} → y ≈ z → withSignᶠ b y ≈ 
 sign-cong true e = negᶠ-cong e
 sign-cong false e = e
 
-sign-sum : (b : Bool) (x y : Fraction) → withSignᶠ b (x +ᶠ y) ≈ (withSignᶠ b x +ᶠ withSignᶠ b y)
+pub sign-sum : (b : Bool) (x y : Fraction) → withSignᶠ b (x +ᶠ y) ≈ (withSignᶠ b x +ᶠ withSignᶠ b y)
 sign-sum true x y = negᶠ-+ᶠ x y
 sign-sum false x y = ≈-refl (x +ᶠ y)
 
-sign-difference : (b : Bool) (x y : Fraction) → (withSignᶠ b x +ᶠ withSignᶠ (not b) y) ≈ withSignᶠ b (x -ᶠ y)
+pub sign-difference : (b : Bool) (x y : Fraction) → (withSignᶠ b x +ᶠ withSignᶠ (not b) y) ≈ withSignᶠ b (x -ᶠ y)
 sign-difference true x y = ≈-sym (negᶠ-difference x y ⨾ -ᶠ-is y x ⨾ +ᶠ-comm y (negᶠ x))
 sign-difference false x y = ≈-sym (-ᶠ-is x y)
 

@@ -20,6 +20,11 @@ pub record HighestBit (x k : ℕ) : Type 0 where
   pub at-least : 2 ^ k ≤ x
   pub less : x < 2 * 2 ^ k
 
+-- the first where the mark is 0, else the second
+abbrev pub chosenBy : ℕ → ℕ → ℕ → ℕ
+chosenBy zero first second = first
+chosenBy (suc mark) first second = second
+
 -- the parts of a tail of w bits behind a regime
 pub record TailParts (es regime w tail : ℕ) (r : Parts) : Type 0 where
   pub scale : r .scale ≡ regime * 2 ^ es + tail * 2 ^ es / 2 ^ w
@@ -50,6 +55,11 @@ Odd n es negative p (Finite sign s g) = OddOf n es negative p sign s g
 pub record Cut (head w width x : ℕ) (r : Located) : Type 0 where
   pub pattern : r .pattern ≡ head + x / 2 ^ (width - w)
   pub exact : r .exact ≡ eqb (x % 2 ^ (width - w)) 0
+
+-- a tail behind the run of a regime: of zeros below the middle, of ones from it on
+pub record BehindRun (n regime width x : ℕ) (r : Located) : Type 0 where
+  pub zeros : regime < n - 1 → Cut (2 ^ regime) regime width x r
+  pub ones : n - 1 ≤ regime → Cut (2 ^ n - 2 * 2 ^ (2 * n - 3 - regime)) (2 * n - 3 - regime) width x r
 
 -- where fraction · 2^scale lies: exactly, as no bit of it is lost
 pub record LocatesScaled (n es : ℕ) (scale : ℤ) (fraction : ℕ) (r : Located) : Type 0 where

@@ -1,5 +1,6 @@
 // What the layers above use of the posits beside the public calls; these functions may ask something of their caller.
 pub mod add;
+pub mod choose;
 pub mod divide;
 pub mod float_bits;
 pub mod format;
@@ -7,6 +8,10 @@ pub mod judge;
 pub mod locate;
 pub mod magnitude;
 pub mod multiply;
+pub mod normal;
+pub mod normal_product;
+pub mod normal_quotient;
+pub mod normal_sum;
 pub mod power;
 pub mod product;
 pub mod quotient;

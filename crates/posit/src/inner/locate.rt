@@ -1,8 +1,9 @@
 // Where an exact magnitude lies among the patterns that are one bit longer than the format's.
-ghost use Prim.Native.Nat.{_+_, _*_, _^_, _<_, _≤_};
+ghost use Prim.Native.Nat.{_+_, _-_, _*_, _^_, _<_, _≤_};
 ghost use Rattle.posit.specs.Format.{Format};
 ghost use Rattle.posit.specs.Locating.{Locates};
-ghost use Rattle.posit.specs.Parts.{Cut};
+ghost use Rattle.posit.specs.Parts.{Cut, BehindRun};
+use super::choose::chosen;
 use super::power::highest_bit;
 use super::power::power;
 use super::power::power32;
@@ -25,6 +26,22 @@ fn cut(head: u32, w: u32, width: u32, x: u64) -> Located
     }
 }
 
+// Regimes are counted from 0, and from the width less 1 on the run is of ones: then 32 is reached here.
+const TO_ONES: u32 = 33;
+
+const REACHED: u32 = 32;
+
+// The pattern of a regime with the tail x, without a jump on which run it has.
+fn behind_run(n: u32, regime: u32, width: u32, x: u64) -> Located
+    requires { ⌜ (3 ≤ n) × (n ≤ 16) × (regime < 2 * (n - 1)) × (16 ≤ width) × (width < 64) × (x < 2 ^ width) ⌝ }
+    ensures { λ r. ⌜ BehindRun n regime width x r ⌝ }
+{
+    let ones = (regime + TO_ONES - n) / REACHED;
+    let w = chosen(ones, regime, 2 * n - 3 - regime);
+    let unit = power32(w);
+    cut(chosen(ones, unit, power32(n) - 2 * unit), w, width, x)
+}
+
 // Where g · 2^s / 2^a lies.
 pub fn locate(n: u32, es: u32, g: u64, s: u64, a: u64) -> Located
     requires { ⌜ (Format n es) × (2 ^ 16 ≤ g) × (g < 2 ^ 62) × (s < 2 ^ 32) × (a < 2 ^ 33) ⌝ }
@@ -41,13 +58,8 @@ pub fn locate(n: u32, es: u32, g: u64, s: u64, a: u64) -> Located
     let scale = lift - a;
     let regime = scale / power(es);
     let x = scale % power(es) * power(h) + (g - power(h));
-    if regime < n as u64 - 1 {
-        let w = regime as u32;
-        return cut(power32(w), w, h + es, x);
-    }
     if regime < 2 * (n as u64 - 1) {
-        let w = 2 * n - 3 - regime as u32;
-        return cut(power32(n) - 2 * power32(w), w, h + es, x);
+        return behind_run(n, regime as u32, h + es, x);
     }
     Located {
         pattern: power32(n) - 1,

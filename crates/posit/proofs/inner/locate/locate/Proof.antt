@@ -1,14 +1,17 @@
 -- `posit::inner::locate::locate` meets its contract: each way out is a law of `LocatesBy`, and every number on the way fits its word (`Bounds`).
-use mathlib.Core.Path.{_≡_, sym, ap₂, _∙_, subst}
+use mathlib.Core.Path.{_≡_, refl, sym, _∙_, subst}
+use mathlib.Core.Logic.{_⊎_, inl, inr}
 use Prim.Native.Nat.{ℕ, _+_, _-_, _*_, _/_, _%_, _^_, _≤_, _<_}
 use native.Mathlib.Omega.{arith}
 use lib.Pow.{pow-pos, pow-mono}
 use borrow.Author.Needs.{needs}
 use borrow.Author.Tests.{ne-eqb}
-use Rattle.posit.proofs.Bounds.{high-at-least, high-below, lowest-small, twice-small, exponent-fits, behind-fits, power-small, double-within}
+use Rattle.posit.proofs.Bounds.{high-at-least, high-below, lowest-small, twice-small, exponent-fits, behind-fits}
 use Rattle.posit.proofs.Place.{behind}
 use Rattle.posit.proofs.Bracketed.{lowest}
 use Rattle.posit.proofs.LocatesBy.{Scale, below-minPos, zeros-first, ones-first, last-hit, last-passed, scale-with, twice-with, regime-with, bits-with}
+use Rattle.posit.proofs.Chosen.{either-run}
+use Rattle.posit.specs.Locating.{Locates}
 use Rattle.posit.proofs.inner.locate.locate.Statement.{statement}
 use Rattle.posit.proofs.inner.locate.locate.Tie as tie
 
@@ -67,10 +70,6 @@ bits-fit : (c : tie.After-power5) → bits c < 2 ^ (top c + first c .args .es)
 bits-fit c =
     subst (λ (k : ℕ). k < 2 ^ (top c + first c .args .es)) (sym (bits-are c))
     (behind-fits (scale c) (first c .args .es) (top c) (first c .args .g) (known c .high))
-
--- the bits behind a run of ones
-abbrev left-over : tie.After-power5 → ℕ
-left-over c = 2 * first c .args .n - 3 - regime c
 
 highest-bit-requires : tie.Need-highest-bit-requires
 highest-bit-requires c κs = search needs
@@ -138,28 +137,43 @@ cast-if2 c = search needs
 sub-if2 : tie.Need-sub-if2
 sub-if2 c = search needs
 
-cast-w : tie.Need-cast-w
-cast-w c = search needs
+mul-if2 : tie.Need-mul-if2
+mul-if2 c = search needs
+
+cast-behind-run : tie.Need-cast-behind-run
+cast-behind-run c = search needs
+
+add-behind-run : tie.Need-add-behind-run
+add-behind-run c = record { fits = omega (arith, width-fits (c .before)) }
+
+behind-run-requires : tie.Need-behind-run-requires
+behind-run-requires c κs = (
+  first (c .before) .pre .0 .wide-enough,
+  first (c .before) .pre .0 .not-too-wide,
+  c .if2 .taken,
+  omega (arith, from-16 (c .before .before .before .before .before .before .before)),
+  width-fits (c .before),
+  bits-fit (c .before),
+)
+
+module _ (c : tie.After-behind-run) where
+  abbrev at : tie.After-power5
+  at = c .before .before
+
+  by-run : (regime at < first at .args .n - 1) ⊎ (first at .args .n - 1 ≤ regime at) → Locates (first at .args .n) (first at .args .es) (first at .args .g) (first at .args .s) (first at .args .a) (c .behind-run .result .pattern) (c .behind-run .result .exact)
+  by-run (inl l) = zeros-first (known at) (c .behind-run .ensures .zeros l) (bits-are at) refl (regime-is at) l
+  by-run (inr l) =
+      ones-first (known at) (c .behind-run .ensures .ones l) (bits-are at) refl (omega (arith, regime-is at, l))
+      (omega (arith, regime-is at, l, c .before .if2 .taken))
+
+returns-2 : tie.Need-returns-2
+returns-2 c = by-run c (either-run (first (at c) .args .n) (regime (at c)) (first (at c) .pre .0 .not-too-wide) (c .before .if2 .taken))
 
 power32-requires : tie.Need-power32-requires
 power32-requires c κs = search needs
 
-add-cut : tie.Need-add-cut
-add-cut c = record { fits = omega (arith, width-fits (c .before .before)) }
-
-cut-requires : tie.Need-cut-requires
-cut-requires c κs = (
-  omega (arith, power-small (regime (c .before .before)) (omega arith) (c .power32 .ensures)),
-  omega (arith, from-16 (c .before .before .before .before .before .before .before .before)),
-  omega arith,
-  width-fits (c .before .before),
-  bits-fit (c .before .before),
-)
-
-returns-2 : tie.Need-returns-2
-returns-2 c =
-    zeros-first (known (c .before .before .before)) (c .cut .ensures) (bits-are (c .before .before .before)) (c .before .power32 .ensures) (regime-is (c .before .before .before))
-    (c .before .before .if2 .taken)
+sub-t56 : tie.Need-sub-t56
+sub-t56 c = omega (arith, c .power32 .ensures, pow-pos (first (c .before .before) .args .n))
 
 cast-if3 : tie.Need-cast-if3
 cast-if3 c = search needs
@@ -170,81 +184,24 @@ sub-if3 c = search needs
 mul-if3 : tie.Need-mul-if3
 mul-if3 c = search needs
 
-mul-w : tie.Need-mul-w
-mul-w c = search needs
-
-sub-w : tie.Need-sub-w
-sub-w c = search needs
-
-cast-w-2 : tie.Need-cast-w-2
-cast-w-2 c = search needs
-
-sub-w-2 : tie.Need-sub-w-2
-sub-w-2 c = search needs
-
-power32-requires-2 : tie.Need-power32-requires-2
-power32-requires-2 c κs = search needs
-
-power32-requires-3 : tie.Need-power32-requires-3
-power32-requires-3 c κs = search needs
-
-mul-cut : tie.Need-mul-cut
-mul-cut c = record { fits = omega (arith, power-small (left-over (c .before .before .before .before)) (omega arith) (c .power323 .ensures)) }
-
-sub-cut : tie.Need-sub-cut
-sub-cut c = double-within (left-over (c .before .before .before .before)) (first (c .before .before .before .before) .args .n) (omega arith) (c .before .power322 .ensures) (c .power323 .ensures)
-
-add-cut-2 : tie.Need-add-cut-2
-add-cut-2 c = record { fits = omega (arith, width-fits (c .before .before .before .before)) }
-
-cut-requires-2 : tie.Need-cut-requires-2
-cut-requires-2 c κs = (
-  omega (arith, power-small (first (c .before .before .before .before) .args .n) (omega arith) (c .before .power322 .ensures)),
-  omega (arith, from-16 (c .before .before .before .before .before .before .before .before .before .before)),
-  omega arith,
-  width-fits (c .before .before .before .before),
-  bits-fit (c .before .before .before .before),
-)
-
-returns-3 : tie.Need-returns-3
-returns-3 c =
-    ones-first (known (c .before .before .before .before .before)) (c .cut2 .ensures) (bits-are (c .before .before .before .before .before))
-    (ap₂ (λ (P Q : ℕ). P - 2 * Q) (c .before .before .power322 .ensures) (c .before .power323 .ensures)) (omega (arith, regime-is (c .before .before .before .before .before)))
-    (omega (arith, regime-is (c .before .before .before .before .before)))
-
-power32-requires-4 : tie.Need-power32-requires-4
-power32-requires-4 c κs = search needs
-
-sub-t80 : tie.Need-sub-t80
-sub-t80 c = omega (arith, c .power324 .ensures, pow-pos (first (c .before .before .before) .args .n))
-
-cast-if4 : tie.Need-cast-if4
-cast-if4 c = search needs
-
-sub-if4 : tie.Need-sub-if4
-sub-if4 c = search needs
-
-mul-if4 : tie.Need-mul-if4
-mul-if4 c = search needs
-
 power-requires-6 : tie.Need-power-requires-6
 power-requires-6 c κs = search needs
 
-mul-if4-2 : tie.Need-mul-if4-2
-mul-if4-2 c = record { fits = omega (arith, twice-small (c .before .before .before .before .before .before .before .before .before .before .before .pre .0) (c .power6 .ensures)) }
+mul-if3-2 : tie.Need-mul-if3-2
+mul-if3-2 c = record { fits = omega (arith, twice-small (c .before .before .before .before .before .before .before .before .before .before .pre .0) (c .power6 .ensures)) }
 
 power-requires-7 : tie.Need-power-requires-7
-power-requires-7 c κs = omega (arith, below-62 (c .before .before .before .before .before .before .before .before .before .before .before))
+power-requires-7 c κs = omega (arith, below-62 (c .before .before .before .before .before .before .before .before .before .before))
+
+returns-3 : tie.Need-returns-3
+returns-3 c =
+    last-hit (known (c .before .before .before .before .before)) (c .before .before .before .power32 .ensures) (c .power7 .ensures)
+    (sym (scale-is (c .before .before .before .before .before)) ∙ c .before .if3 .taken ∙ twice-with (first (c .before .before .before .before .before) .args .n) (first (c .before .before .before .before .before) .args .es) (c .before .before .power6 .ensures))
 
 returns-4 : tie.Need-returns-4
 returns-4 c =
-    last-hit (known (c .before .before .before .before .before .before)) (c .before .before .before .power324 .ensures) (c .power7 .ensures)
-    (sym (scale-is (c .before .before .before .before .before .before)) ∙ c .before .if4 .taken ∙ twice-with (first (c .before .before .before .before .before .before) .args .n) (first (c .before .before .before .before .before .before) .args .es) (c .before .before .power6 .ensures))
-
-returns-5 : tie.Need-returns-5
-returns-5 c =
-    last-passed (known (c .before .before .before .before .before)) (c .before .before .power324 .ensures) (ne-eqb _ _ (c .if4 .left)) (omega (arith, regime-is (c .before .before .before .before .before)))
-    (λ z. c .if4 .left (scale-is (c .before .before .before .before .before) ∙ z ∙ sym (twice-with (first (c .before .before .before .before .before) .args .n) (first (c .before .before .before .before .before) .args .es) (c .before .power6 .ensures))))
+    last-passed (known (c .before .before .before .before)) (c .before .before .power32 .ensures) (ne-eqb _ _ (c .if3 .left)) (omega (arith, regime-is (c .before .before .before .before)))
+    (λ z. c .if3 .left (scale-is (c .before .before .before .before) ∙ z ∙ sym (twice-with (first (c .before .before .before .before) .args .n) (first (c .before .before .before .before) .args .es) (c .before .power6 .ensures))))
 
 pub locate-spec : {M : Type 1} → statement M
 locate-spec =
@@ -271,32 +228,18 @@ locate-spec =
     add-x
     cast-if2
     sub-if2
-    cast-w
-    power32-requires
-    add-cut
-    cut-requires
+    mul-if2
+    cast-behind-run
+    add-behind-run
+    behind-run-requires
     returns-2
+    power32-requires
+    sub-t56
     cast-if3
     sub-if3
     mul-if3
-    mul-w
-    sub-w
-    cast-w-2
-    sub-w-2
-    power32-requires-2
-    power32-requires-3
-    mul-cut
-    sub-cut
-    add-cut-2
-    cut-requires-2
-    returns-3
-    power32-requires-4
-    sub-t80
-    cast-if4
-    sub-if4
-    mul-if4
     power-requires-6
-    mul-if4-2
+    mul-if3-2
     power-requires-7
-    returns-4
-    returns-5)
+    returns-3
+    returns-4)
