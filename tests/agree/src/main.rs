@@ -5,6 +5,7 @@
 mod call;
 mod encodings;
 mod figures;
+mod files;
 mod floats;
 mod formats;
 mod operations;
@@ -28,7 +29,7 @@ use tally::Outcome;
 type Group = (&'static str, fn() -> Outcome);
 
 /// The groups in the order of their lines.
-const GROUPS: [Group; 21] = [
+const GROUPS: [Group; 22] = [
     ("bench figures and further cases", figures::every),
     ("published vectors", figures::vectors),
     ("patterns", patterns::every),
@@ -53,6 +54,7 @@ const GROUPS: [Group; 21] = [
     ("ranges going out", readings::going_out),
     ("columns", sheets::columns),
     ("sheets", sheets::sheets),
+    ("sheet files", files::every),
 ];
 
 fn main() -> ExitCode {

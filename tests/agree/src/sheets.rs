@@ -77,11 +77,24 @@ pub fn sheets() -> Outcome {
     tally.with_every(&OF_SHEETS)
 }
 
-/// One sheet on both programs: shallow in most, of 64 steps and a few more in one of eight.
+/// One sheet on both programs, sometimes with too little room.
 fn work(tally: &mut Tally, random: &mut Random, n: u32, es: u32) -> Result<(), Difference> {
+    let (inputs, steps) = picked(random, n.clamp(3, 16));
+    let room = (inputs.len() + steps.len() / 3 + random.below(8) as usize).saturating_sub(1);
+    let (mut ours, mut theirs) = (vec![FILL; room], vec![FILL; room]);
+    let answer = proved::work(n, es, &inputs, &steps, &mut ours);
+    let other = sheet::work(n, es, &inputs, &steps, &mut theirs);
+    let got = (answer.number, answer.place.into(), answer.count.into());
+    let expected = (other.number, other.place, other.value);
+    let call = format!("{:?}", (n, es, &inputs, &steps, room));
+    hold(tally, "work", &call, got, expected, ours == theirs)
+}
+
+/// The inputs and steps of a sheet: shallow in most, of 64 steps and a few more in one of eight.
+pub fn picked(random: &mut Random, n: u32) -> (Vec<u64>, Vec<u8>) {
     let bound = if random.below(16) == 0 { 34 } else { 6 };
     let inputs = length(random, bound);
-    let inputs = words(random, n.clamp(3, 16), inputs);
+    let inputs = words(random, n, inputs);
     let deep = random.below(8) == 0;
     let count = if deep {
         62 + random.below(5)
@@ -102,14 +115,7 @@ fn work(tally: &mut Tally, random: &mut Random, n: u32, es: u32) -> Result<(), D
     if random.below(64) == 0 {
         steps.push(0);
     }
-    let room = (inputs.len() + steps.len() / 3 + random.below(8) as usize).saturating_sub(1);
-    let (mut ours, mut theirs) = (vec![FILL; room], vec![FILL; room]);
-    let answer = proved::work(n, es, &inputs, &steps, &mut ours);
-    let other = sheet::work(n, es, &inputs, &steps, &mut theirs);
-    let got = (answer.number, answer.place.into(), answer.count.into());
-    let expected = (other.number, other.place, other.value);
-    let call = format!("{:?}", (n, es, &inputs, &steps, room));
-    hold(tally, "work", &call, got, expected, ours == theirs)
+    (inputs, steps)
 }
 
 /// The same answer, and the same lent column.

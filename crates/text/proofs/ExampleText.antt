@@ -1,0 +1,18 @@
+-- Document 01's example file has document 01's text, because the definitions compute to it.
+use mathlib.Core.Path.{_≡_, refl}
+use Rattle.posit.specs.Refusal.{firstHit}
+use Rattle.posit.specs.Reading.{run}
+use Rattle.posit.specs.Value.{multiple, units}
+use Rattle.posit.specs.Nearest.{floorUpTo, chosen, nearestAbove, nearest}
+use Rattle.range.specs.Computed.{answerOf}
+use Rattle.range.specs.Word.{kindOfTiles}
+use Rattle.sheet.specs.File.{numberOf, wordsOf, fileOf, hasMark, verdictOfFile, rowsOfFile}
+use Rattle.sheet.specs.Refusal.{wordTests, holdsZero}
+use Rattle.sheet.specs.Sheet.{stepsOf, rowsOf, inputsTests, stepsTests}
+use Rattle.text.specs.Example.{exampleFile, exampleText}
+use Rattle.text.specs.FileText.{textOfFile}
+use Rattle.text.specs.Text.{digit, decimalWithin, decimal, markByte, rowLine, refusalLine, rowLines, textOf}
+
+pub example-text : textOfFile exampleFile ≡ exampleText
+unfolding run multiple units floorUpTo chosen nearestAbove nearest answerOf kindOfTiles numberOf wordsOf fileOf hasMark verdictOfFile rowsOfFile wordTests holdsZero stepsOf rowsOf inputsTests stepsTests digit decimalWithin decimal markByte rowLine refusalLine rowLines textOf textOfFile firstHit
+example-text = refl

@@ -1,0 +1,4 @@
+pub mod Text
+pub mod FileText
+pub mod Example
+pub mod Put
