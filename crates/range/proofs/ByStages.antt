@@ -1,5 +1,5 @@
 -- What the machine functions find stage by stage is what the definitions say at once.
-use mathlib.Core.Path.{_≡_, sym, ap, _∙_}
+use mathlib.Core.Path.{_≡_, sym, ap₂, _∙_}
 use mathlib.Core.Bool.{Bool, true, false}
 use Prim.Native.Nat.{ℕ, _≤_}
 use lib.Dec.{leb}
@@ -18,43 +18,28 @@ pub signed-by-stages :
 signed-by-stages n es divide a b e f g h i j k l m o = rw (o, m, l, k, j, i, h, g, f, e)
 
 module _ (n es : ℕ) (wide : 3 ≤ n) where
-  quotient-there : (x y : Span) → Cells n (quotientCells n es x y)
+  pub quotient-there : (x y : Span) → Cells n (quotientCells n es x y)
   quotient-there x y = hull-cells n wide (signed-cells n wide es true x y) (zero-cells n wide (hasZero n x) (hasOther n y))
 
-  product-there : (x y : Span) → Cells n (productCells n es x y)
+  pub product-there : (x y : Span) → Cells n (productCells n es x y)
   product-there x y =
       hull-cells n wide (hull-cells n wide (signed-cells n wide es false x y) (zero-cells n wide (hasZero n x) (hasOther n y)))
       (zero-cells n wide (leb (x .lo) (x .hi)) (hasZero n y))
 
-  module _ (a b : ℕ) where
-    quotient-by-stages :
-        {x y s z r : Span} {p q : Bool} → x ≡ cellsOf n a → y ≡ cellsOf n b → s ≡ signedResults n es true x y → p ≡ hasZero n x → q ≡ hasOther n y
-        → z ≡ zeroIf n p q → r ≡ hullOf s z → r ≡ quotientCells n es (cellsOf n a) (cellsOf n b)
-    quotient-by-stages e f g h i j k = rw (k, j, i, h, g, f, e)
+  pub quotient-by-stages :
+      (x y : Span) {s z r : Span} {p q : Bool} → s ≡ signedResults n es true x y → p ≡ hasZero n x → q ≡ hasOther n y → z ≡ zeroIf n p q → r ≡ hullOf s z
+      → r ≡ quotientCells n es x y
+  quotient-by-stages x y g h i j k = rw (k, j, i, h, g)
 
-    pub quotient-fits :
-        {x y s z r : Span} {p q : Bool} → x ≡ cellsOf n a → y ≡ cellsOf n b → s ≡ signedResults n es true x y → p ≡ hasZero n x → q ≡ hasOther n y
-        → z ≡ zeroIf n p q → r ≡ hullOf s z → Cells n r
-    quotient-fits e f g h i j k = rw (quotient-by-stages e f g h i j k) (quotient-there (cellsOf n a) (cellsOf n b))
+  pub product-by-stages :
+      (x y : Span) {s z t u r : Span} {p q v : Bool} → s ≡ signedResults n es false x y → p ≡ hasZero n x → q ≡ hasOther n y → z ≡ zeroIf n p q
+      → v ≡ hasZero n y → t ≡ zeroIf n (leb (x .lo) (x .hi)) v → u ≡ hullOf s z → r ≡ hullOf u t → r ≡ productCells n es x y
+  product-by-stages x y g h i j k l m o = rw (o, m, l, k, j, i, h, g)
 
-    pub quotient-found :
-        Real n a → Real n b → {x y s z r : Span} {p q : Bool} → x ≡ cellsOf n a → y ≡ cellsOf n b → s ≡ signedResults n es true x y → p ≡ hasZero n x
-        → q ≡ hasOther n y → z ≡ zeroIf n p q → r ≡ hullOf s z → {w : ℕ} → w ≡ wordAt n r → w ≡ answerOf n es 3 a b
-    quotient-found c d e f g h i j k l = l ∙ ap (wordAt n) (quotient-by-stages e f g h i j k) ∙ sym (quotient-answer n es wide c d)
+  -- the words of two real ranges' results
+  module _ {a b : ℕ} (c : Real n a) (d : Real n b) {x y : Span} (e : x ≡ cellsOf n a) (f : y ≡ cellsOf n b) {w : ℕ} where
+    pub quotient-found : w ≡ wordAt n (quotientCells n es x y) → w ≡ answerOf n es 3 a b
+    quotient-found h = h ∙ ap₂ (λ s t. wordAt n (quotientCells n es s t)) e f ∙ sym (quotient-answer n es wide c d)
 
-    product-by-stages :
-        {x y s z t u r : Span} {p q v : Bool} → x ≡ cellsOf n a → y ≡ cellsOf n b → s ≡ signedResults n es false x y → p ≡ hasZero n x → q ≡ hasOther n y
-        → z ≡ zeroIf n p q → v ≡ hasZero n y → t ≡ zeroIf n (leb (x .lo) (x .hi)) v → u ≡ hullOf s z → r ≡ hullOf u t
-        → r ≡ productCells n es (cellsOf n a) (cellsOf n b)
-    product-by-stages e f g h i j k l m o = rw (o, m, l, k, j, i, h, g, f, e)
-
-    pub product-fits :
-        {x y s z t u r : Span} {p q v : Bool} → x ≡ cellsOf n a → y ≡ cellsOf n b → s ≡ signedResults n es false x y → p ≡ hasZero n x → q ≡ hasOther n y
-        → z ≡ zeroIf n p q → v ≡ hasZero n y → t ≡ zeroIf n (leb (x .lo) (x .hi)) v → u ≡ hullOf s z → r ≡ hullOf u t → Cells n r
-    product-fits e f g h i j k l m o = rw (product-by-stages e f g h i j k l m o) (product-there (cellsOf n a) (cellsOf n b))
-
-    pub product-found :
-        Real n a → Real n b → {x y s z t u r : Span} {p q v : Bool} → x ≡ cellsOf n a → y ≡ cellsOf n b → s ≡ signedResults n es false x y → p ≡ hasZero n x
-        → q ≡ hasOther n y → z ≡ zeroIf n p q → v ≡ hasZero n y → t ≡ zeroIf n (leb (x .lo) (x .hi)) v → u ≡ hullOf s z → r ≡ hullOf u t
-        → {w : ℕ} → w ≡ wordAt n r → w ≡ answerOf n es 2 a b
-    product-found c d e f g h i j k l m o q = q ∙ ap (wordAt n) (product-by-stages e f g h i j k l m o) ∙ sym (product-answer n es wide c d)
+    pub product-found : w ≡ wordAt n (productCells n es x y) → w ≡ answerOf n es 2 a b
+    product-found h = h ∙ ap₂ (λ s t. wordAt n (productCells n es s t)) e f ∙ sym (product-answer n es wide c d)

@@ -12,11 +12,10 @@ use Rattle.bound.specs.Above.{start-back}
 use Rattle.bound.specs.Cell.{start-of, end-of}
 use Rattle.bound.specs.Fractions.{fractions}
 use Rattle.posit.specs.Value.{value}
-use Rattle.range.specs.declared.inner.positive.Edge.{Edge}
 use Rattle.range.specs.Numbered.{count}
 use Rattle.range.specs.Computed.{cellOf}
 use Rattle.range.specs.Spans.{topCell}
-use Rattle.range.specs.Signs.{pickCell, resultOf, firstCell, lastCell}
+use Rattle.range.specs.Signs.{pickCell, Edge, resultOf, firstCell, lastCell}
 use Rattle.range.proofs.Places.{top-cell}
 use Rattle.range.proofs.ZeroCell.{even, cell-of-zero}
 

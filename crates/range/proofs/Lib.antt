@@ -31,6 +31,8 @@ pub mod Parts
 pub mod SignedCells
 pub mod ResultCell
 pub mod ReachedCells
+pub mod OneSigned
+pub mod NoOperand
 pub mod ByStages
 pub mod SumCells
 pub mod SumRange

@@ -1,20 +1,23 @@
 -- All cells that are computed for products and quotients are cells of the format, and a limit above 0 is a posit above 0.
-use mathlib.Core.Path.{_≡_}
+use mathlib.Core.Path.{_≡_, sym, _∙_}
 use mathlib.Core.Bool.{Bool, true, false, _&&_, _||_}
-use Prim.Native.Nat.{ℕ, _+_, _-_, _*_, _/_, _^_, _≤_, _<_, max}
+use mathlib.Core.Logic.{_⊎_, inl, inr}
+use Prim.Native.Nat.{ℕ, _+_, _-_, _*_, _/_, _%_, _^_, _≤_, _<_, max}
 use native.Mathlib.Omega.{arith}
 use native.Mathlib.Decide.{decLe}
-use lib.Dec.{ltb, leb}
-use borrow.Author.Tests.{eqb-false, lt-ltb, le-ltb, le-leb, lt-leb}
+use lib.Dec.{eqb, ltb, leb}
+use borrow.Author.Tests.{eq-eqb, ne-eqb, lt-ltb, le-ltb, le-leb, lt-leb}
 use Rattle.posit.specs.Format.{Format, nar}
 use Rattle.posit.specs.Value.{value}
+use Rattle.posit.specs.Parts.{chosenBy}
+use Rattle.exact.proofs.Powers.{parity}
 use Rattle.posit.proofs.Patterns.{some-bit}
 use Rattle.range.specs.declared.inner.span.Span.{Span}
-use Rattle.range.specs.declared.inner.positive.Edge.{Edge}
 use Rattle.range.specs.Numbered.{count, patternAt}
 use Rattle.range.specs.Spans.{topCell, noCells, mirrored, Cells}
-use Rattle.range.specs.Signs.{pickCell, pickSpan, zeroCell, startEdge, endEdge, AboveZero, resultOf, resultCell, firstCell, lastCell, isNone, partAbove, PartAbove, positiveSome, positiveResults, hullOf, turnedCells, eitherSign, signedResults, hasZero, hasOther, zeroIf}
-use Rattle.range.proofs.Grid.{half, pattern-high}
+use Rattle.range.specs.Signs.{pickCell, pickSpan, zeroCell, Edge, startEdge, endEdge, CellAbove, resultOf, resultCell, firstCell, lastCell, isNone, partAbove, PartAbove, positiveSome, positiveResults, hullOf, turnedCells, eitherSign, signedResults, hasZero, hasOther, zeroIf}
+use Rattle.range.specs.OneSign.{hasOneSign}
+use Rattle.range.proofs.Grid.{half, nar-positive, pattern-high}
 use Rattle.range.proofs.Places.{top-cell}
 use Rattle.range.proofs.Mirrored.{mirrored-some, mirrored-none}
 use Rattle.range.proofs.ResultCell.{cell-fits}
@@ -26,31 +29,28 @@ module _ (n : ℕ) (wide : 3 ≤ n) where
       let e = pattern-high n (some-bit n wide) k (omega arith) l in
       (omega (arith, e), omega (arith, e, half n (some-bit n wide)))
 
-  pub start-above-zero : (c : ℕ) → 2 ^ n ≤ c → c ≤ topCell n → AboveZero n (startEdge n c)
-  start-above-zero c h l =
-      record {
-        above = λ e. at e .0;
-        below-nar = λ e. at e .1;
-      }
-    where
-      at : startEdge n c .unlimited ≡ false → (0 < patternAt n ((c - 1) / 2)) × (patternAt n ((c - 1) / 2) < nar n)
-      at e =
-          let d = eqb-false c (2 ^ n) e in
-          high-pattern ((c - 1) / 2) (omega (arith, half n (some-bit n wide), d, h)) (omega (arith, top-cell n wide, l))
+  pub start-limit : {c z : ℕ} → CellAbove n c → z ≡ 2 ^ n → (c ≡ z → ⊥) → (0 < startEdge n c .posit) × (startEdge n c .posit < nar n)
+  start-limit {c} {z} a e d = high-pattern ((c - 1) / 2) (omega (arith, half n (some-bit n wide), d, e, a .above)) (omega (arith, top-cell n wide, a .there))
 
-  pub end-above-zero : (c : ℕ) → 2 ^ n ≤ c → c ≤ topCell n → AboveZero n (endEdge n c)
-  end-above-zero c h l =
-      record {
-        above = λ e. at e .0;
-        below-nar = λ e. at e .1;
-      }
-    where
-      at : endEdge n c .unlimited ≡ false → (0 < patternAt n (c / 2)) × (patternAt n (c / 2) < nar n)
-      at e =
-          let d = eqb-false c (topCell n) e in
-          high-pattern (c / 2) (omega (arith, half n (some-bit n wide), h)) (omega (arith, top-cell n wide, l, d))
+  pub end-limit : {c z : ℕ} → CellAbove n c → z ≡ topCell n → (c ≡ z → ⊥) → (0 < endEdge n c .posit) × (endEdge n c .posit < nar n)
+  end-limit {c} {z} a e d = high-pattern (c / 2) (omega (arith, half n (some-bit n wide), a .above)) (omega (arith, top-cell n wide, a .there, e, d))
+
+  -- without the sign
+  pub start-by-count : {c : ℕ} → 2 ^ n < c → c ≤ topCell n → (c + 1 - 2 ^ n) / 2 ≡ startEdge n c .posit
+  start-by-count {c} h l =
+      omega (arith, pattern-high n (some-bit n wide) ((c - 1) / 2) (omega (arith, half n (some-bit n wide), h)) (omega (arith, top-cell n wide, l)), half n (some-bit n wide))
+
+  pub end-by-count : {c : ℕ} → 2 ^ n ≤ c → c < topCell n → (c + 2 - 2 ^ n) / 2 ≡ endEdge n c .posit
+  end-by-count {c} h l =
+      omega (arith, pattern-high n (some-bit n wide) (c / 2) (omega (arith, half n (some-bit n wide), h)) (omega (arith, top-cell n wide, l)), half n (some-bit n wide))
 
   -- ---- parts
+  pub first-above : {p : Span} → PartAbove n p → p .lo ≤ topCell n → CellAbove n (p .lo)
+  first-above a l = record { above = a .low-above; there = l }
+
+  pub last-above : {p : Span} → PartAbove n p → p .lo ≤ topCell n → CellAbove n (p .hi)
+  last-above a l = record { above = omega (arith, a .low-above, a .ordered l); there = a .high-there }
+
   pub part-there : (s : Span) → Cells n s → (s .lo ≤ topCell n → s .lo ≤ s .hi) → PartAbove n (partAbove n s)
   part-there s c o = go (decLe (2 ^ n) (s .hi))
     where
@@ -98,9 +98,9 @@ module _ (n : ℕ) (wide : 3 ≤ n) where
   zero-cells false y = none-cells
 
   -- ---- two parts above 0
-  first-picked : (u k : Bool) (c : ℕ) → c ≤ topCell n → pickCell u (2 ^ n) (pickCell k c (2 * ((c + 1) / 2))) ≤ topCell n + 1
-  first-picked true k c h = omega (arith, top-cell n wide)
-  first-picked false true c h = omega arith
+  first-picked : (u k : Bool) (c : ℕ) → c ≤ topCell n → pickCell u (2 ^ n) (pickCell k c (2 * ((c + 1) / 2))) ≤ topCell n
+  first-picked true k c h = omega (arith, top-cell n wide, half n (some-bit n wide), nar-positive n (some-bit n wide))
+  first-picked false true c h = h
   first-picked false false c h = omega (arith, top-cell n wide, h)
 
   last-picked : (u k : Bool) (c : ℕ) → c ≤ topCell n → pickCell u (topCell n) (pickCell k c (2 * (c / 2))) ≤ topCell n
@@ -109,7 +109,7 @@ module _ (n : ℕ) (wide : 3 ≤ n) where
   last-picked false false c h = omega (arith, h)
 
   module _ (es : ℕ) where
-    first-there : (divide : Bool) (x y : Edge) → firstCell n es divide x y ≤ topCell n + 1
+    first-there : (divide : Bool) (x y : Edge) → firstCell n es divide x y ≤ topCell n
     first-there divide x y =
         first-picked (x .unlimited || y .unlimited) (x .closed && y .closed) (resultCell n es divide (x .posit) (y .posit))
         (cell-fits n es wide (resultOf divide (value n es (x .posit)) (value n es (y .posit))))
@@ -119,17 +119,17 @@ module _ (n : ℕ) (wide : 3 ≤ n) where
         last-picked (x .unlimited || y .unlimited) (x .closed && y .closed) (resultCell n es divide (x .posit) (y .posit))
         (cell-fits n es wide (resultOf divide (value n es (x .posit)) (value n es (y .posit))))
 
-    some-cells : (divide : Bool) (p q : Span) → Cells n (positiveSome n es divide p q)
-    some-cells true p q =
-        record {
-          low-there = first-there true (startEdge n (p .lo)) (endEdge n (q .hi));
-          high-there = last-there true (endEdge n (p .hi)) (startEdge n (q .lo));
-        }
-    some-cells false p q =
-        record {
-          low-there = first-there false (startEdge n (p .lo)) (startEdge n (q .lo));
-          high-there = last-there false (endEdge n (p .hi)) (endEdge n (q .hi));
-        }
+    -- the first cell of some results is there
+    pub some-first : (divide : Bool) (p q : Span) → positiveSome n es divide p q .lo ≤ topCell n
+    some-first true p q = first-there true (startEdge n (p .lo)) (endEdge n (q .hi))
+    some-first false p q = first-there false (startEdge n (p .lo)) (startEdge n (q .lo))
+
+    some-last : (divide : Bool) (p q : Span) → positiveSome n es divide p q .hi ≤ topCell n
+    some-last true p q = last-there true (endEdge n (p .hi)) (startEdge n (q .lo))
+    some-last false p q = last-there false (endEdge n (p .hi)) (endEdge n (q .hi))
+
+    pub some-cells : (divide : Bool) (p q : Span) → Cells n (positiveSome n es divide p q)
+    some-cells divide p q = record { low-there = omega (arith, some-first divide p q); high-there = some-last divide p q }
 
     pub positive-cells : (divide : Bool) (p q : Span) → Cells n (positiveResults n es divide p q)
     positive-cells divide p q = go (isNone n p || isNone n q)
@@ -147,6 +147,38 @@ module _ (n : ℕ) (wide : 3 ≤ n) where
         (turned-cells (eitherSign n es divide (partAbove n (mirrored n a)) (partAbove n b) (partAbove n (mirrored n b))))
 
 -- ---- the tests of the machine functions
+module _ (n c : ℕ) {z : ℕ} where
+  pub start-unlimited : z ≡ 2 ^ n → c ≡ z → startEdge n c .unlimited ≡ true
+  start-unlimited e h = eq-eqb c (2 ^ n) (h ∙ e)
+
+  pub start-limited : z ≡ 2 ^ n → (c ≡ z → ⊥) → startEdge n c .unlimited ≡ false
+  start-limited e h = ne-eqb c (2 ^ n) (λ k. h (k ∙ sym e))
+
+  pub end-unlimited : z ≡ topCell n → c ≡ z → endEdge n c .unlimited ≡ true
+  end-unlimited e h = eq-eqb c (topCell n) (h ∙ e)
+
+  pub end-limited : z ≡ topCell n → (c ≡ z → ⊥) → endEdge n c .unlimited ≡ false
+  end-limited e h = ne-eqb c (topCell n) (λ k. h (k ∙ sym e))
+
+-- two marks are one, and their product chooses as both tests do
+pub marks-small : (a b : ℕ) → a % 2 * (b % 2) ≤ 1
+marks-small a b = go (parity a) (parity b)
+  where
+    go : (a % 2 ≡ 0) ⊎ (a % 2 ≡ 1) → (b % 2 ≡ 0) ⊎ (b % 2 ≡ 1) → a % 2 * (b % 2) ≤ 1
+    go (inl e) (inl f) = rw (e, f) (omega arith)
+    go (inl e) (inr f) = rw (e, f) (omega arith)
+    go (inr e) (inl f) = rw (e, f) (omega arith)
+    go (inr e) (inr f) = rw (e, f) (omega arith)
+
+by-marks : (a b s t : ℕ) → chosenBy (a % 2 * (b % 2)) s t ≡ pickCell (eqb (a % 2) 1 && eqb (b % 2) 1) t s
+by-marks a b s t = go (parity a) (parity b)
+  where
+    go : (a % 2 ≡ 0) ⊎ (a % 2 ≡ 1) → (b % 2 ≡ 0) ⊎ (b % 2 ≡ 1) → chosenBy (a % 2 * (b % 2)) s t ≡ pickCell (eqb (a % 2) 1 && eqb (b % 2) 1) t s
+    go (inl e) (inl f) = rw (e, f)
+    go (inl e) (inr f) = rw (e, f)
+    go (inr e) (inl f) = rw (e, f)
+    go (inr e) (inr f) = rw (e, f)
+
 module _ (n es : ℕ) (divide : Bool) (x y : Edge) {r : ℕ} where
   pub first-no-left : r ≡ 2 ^ n → x .unlimited ≡ true → r ≡ firstCell n es divide x y
   first-no-left h e = rw e h
@@ -160,25 +192,13 @@ module _ (n es : ℕ) (divide : Bool) (x y : Edge) {r : ℕ} where
   pub last-no-right : r ≡ topCell n → x .unlimited ≡ false → y .unlimited ≡ true → r ≡ lastCell n es divide x y
   last-no-right h e f = rw (e, f) h
 
-  module _ (e : x .unlimited ≡ false) (f : y .unlimited ≡ false) where
-    pub first-closed : r ≡ resultCell n es divide (x .posit) (y .posit) → x .closed ≡ true → y .closed ≡ true → r ≡ firstCell n es divide x y
-    first-closed h i j = rw (e, f, i, j) h
+  module _ (e : x .unlimited ≡ false) (f : y .unlimited ≡ false) (a b : ℕ) (i : x .closed ≡ eqb (a % 2) 1) (j : y .closed ≡ eqb (b % 2) 1)
+      {c : ℕ} (h : c ≡ resultCell n es divide (x .posit) (y .posit)) where
+    pub first-limited : r ≡ chosenBy (a % 2 * (b % 2)) (2 * ((c + 1) / 2)) c → r ≡ firstCell n es divide x y
+    first-limited k = rw (e, f, i, j, ← h) (k ∙ by-marks a b (2 * ((c + 1) / 2)) c)
 
-    pub last-closed : r ≡ resultCell n es divide (x .posit) (y .posit) → x .closed ≡ true → y .closed ≡ true → r ≡ lastCell n es divide x y
-    last-closed h i j = rw (e, f, i, j) h
-
-    module _ {c : ℕ} (h : c ≡ resultCell n es divide (x .posit) (y .posit)) where
-      pub first-right-open : r ≡ 2 * ((c + 1) / 2) → x .closed ≡ true → y .closed ≡ false → r ≡ firstCell n es divide x y
-      first-right-open k i j = rw (e, f, i, j, ← h) k
-
-      pub first-left-open : r ≡ 2 * ((c + 1) / 2) → x .closed ≡ false → r ≡ firstCell n es divide x y
-      first-left-open k i = rw (e, f, i, ← h) k
-
-      pub last-right-open : r ≡ 2 * (c / 2) → x .closed ≡ true → y .closed ≡ false → r ≡ lastCell n es divide x y
-      last-right-open k i j = rw (e, f, i, j, ← h) k
-
-      pub last-left-open : r ≡ 2 * (c / 2) → x .closed ≡ false → r ≡ lastCell n es divide x y
-      last-left-open k i = rw (e, f, i, ← h) k
+    pub last-limited : r ≡ chosenBy (a % 2 * (b % 2)) (2 * (c / 2)) c → r ≡ lastCell n es divide x y
+    last-limited k = rw (e, f, i, j, ← h) (k ∙ by-marks a b (2 * (c / 2)) c)
 
 module _ (n es : ℕ) (divide : Bool) (p q : Span) {r : Span} where
   pub no-left-part : r ≡ noCells n → topCell n < p .lo → r ≡ positiveResults n es divide p q
@@ -207,6 +227,12 @@ module _ (n : ℕ) (s : Span) {z : ℕ} (e : z ≡ 2 ^ n) where
   pub other-above : z ≤ s .hi → leb z (s .hi) ≡ hasOther n s
   other-above h = rw (e, le-leb (2 ^ n) (s .hi) (omega (arith, e, h)))
 
+  pub sign-above : z ≤ s .lo → leb z (s .lo) ≡ hasOneSign n s
+  sign-above h = rw (e, le-leb (2 ^ n) (s .lo) (omega (arith, e, h)))
+
+  pub sign-below : s .lo < z → ltb (s .hi) (z - 1) ≡ hasOneSign n s
+  sign-below h = rw (e, lt-leb (2 ^ n) (s .lo) (omega (arith, e, h)))
+
   pub other-below : s .hi < z → ltb (s .lo) (z - 1) ≡ hasOther n s
   other-below h = rw (e, lt-leb (2 ^ n) (s .hi) (omega (arith, e, h)))
 
@@ -233,7 +259,3 @@ module _ (n : ℕ) (s : Span) {t : ℕ} (e : t ≡ topCell n) where
 
   pub some-turned : s .lo ≤ t → record { lo = t - s .hi; hi = t - s .lo } ≡ turnedCells n s
   some-turned l = rw (le-ltb (topCell n) (s .lo) (omega (arith, e, l)), e)
-
--- a pattern with a clear top bit is one
-pub below-nar-fits : {n es p : ℕ} → Format n es → p < nar n → p < 2 ^ n
-below-nar-fits {n} f h = omega (arith, half n (some-bit n (f .wide-enough)), h)

@@ -8,7 +8,7 @@ use borrow.Author.Tests.{lt-ltb, le-ltb}
 use Rattle.range.specs.Word.{words, empty, kind, isInfinite, startTile, endTile, closedNar, openNar}
 use Rattle.range.specs.Member.{Real}
 use Rattle.range.specs.Numbered.{count}
-use Rattle.range.specs.Spans.{topCell, startCell, endCell, noCells, between, cellsOf, Cells}
+use Rattle.range.specs.Spans.{topCell, startCell, endCell, noCells, between, cellsOf, Cells, RealCells}
 use Rattle.range.proofs.Places.{Placed, placed, start-tile-of-word, end-tile-of-word, top-cell}
 use Rattle.range.proofs.WordKinds.{Case, extended, nothing, infinite, kind-case, closed-start-infinite, closed-end-infinite}
 
@@ -64,6 +64,16 @@ module _ (n : ℕ) (wide : 3 ≤ n) {w : ℕ} (r : Real n w) where
       go : RealCase n w → cellsOf n w .lo ≤ topCell n → cellsOf n w .lo ≤ cellsOf n w .hi
       go (has-cells k l e) = rw e (λ h. l)
       go (has-none k i m o l e) = rw e (λ h. absurd (omega (arith, h)))
+
+  none-at-all : cellsOf n w .hi < cellsOf n w .lo → cellsOf n w ≡ noCells n
+  none-at-all = go real-case
+    where
+      go : RealCase n w → cellsOf n w .hi < cellsOf n w .lo → cellsOf n w ≡ noCells n
+      go (has-cells k l e) h = absurd (omega (arith, l, rw e at h))
+      go (has-none k i m o l e) h = e
+
+  pub real-cells : RealCells n (cellsOf n w)
+  real-cells = record { there = cells-there; ordered = cells-ordered; none = none-at-all }
 
   pub high-there : cellsOf n w .hi ≤ 2 * count n
   high-there = omega (arith, cells-there .high-there, top-cell n wide)

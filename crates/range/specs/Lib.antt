@@ -8,4 +8,5 @@ pub mod Spans
 pub mod Computed
 pub mod Cells
 pub mod Signs
+pub mod OneSign
 pub mod Reading

@@ -2,18 +2,11 @@
 -- the results of two parts above 0 reach from the result of two of their ends to that of the other two, a minus turns cells round, and the
 -- results of all parts are put together.
 use mathlib.Core.Bool.{Bool, true, false, _&&_, _||_}
-use Prim.Native.Nat.{ℕ, _+_, _-_, _*_, _/_, _%_, _^_, _≤_, _<_, min, max}
-use mathlib.Core.Path.{_≡_}
+use Prim.Native.Nat.{ℕ, _+_, _-_, _*_, _/_, _%_, _^_, _≤_, min, max}
 use lib.Dec.{eqb, ltb, leb}
-use lib.IntN.{ℤ}
 use Rattle.exact.specs.Fraction.{Fraction, _*ᶠ_, _/ᶠ_}
-use Rattle.posit.specs.Format.{nar}
 use Rattle.posit.specs.Value.{value}
-use Rattle.posit.specs.Decoding.{finiteValue}
-use Rattle.posit.specs.Magnitudes.{Knows}
-use Rattle.posit.specs.declared.inner.magnitude.Magnitude.{Magnitude}
 use Rattle.range.specs.declared.inner.span.Span.{Span}
-use Rattle.range.specs.declared.inner.positive.Edge.{Edge}
 use Rattle.range.specs.Numbered.{patternAt}
 use Rattle.range.specs.Spans.{topCell, noCells, mirrored}
 use Rattle.range.specs.Computed.{cellOf}
@@ -31,6 +24,12 @@ pickSpan false a b = b
 abbrev pub zeroCell : ℕ → ℕ
 zeroCell n = 2 ^ n - 1
 
+-- an end among the numbers above 0: no limit, or a posit that is a member itself or not
+pub record Edge : Type 0 where
+  pub unlimited : Bool
+  pub closed : Bool
+  pub posit : ℕ
+
 -- an end by its cell: a start in the gap above 0 and an end in the topmost gap are no limit among the numbers above 0
 abbrev pub startEdge : ℕ → ℕ → Edge
 startEdge n c = record { unlimited = eqb c (2 ^ n); closed = eqb (c % 2) 1; posit = patternAt n ((c - 1) / 2) }
@@ -38,18 +37,14 @@ startEdge n c = record { unlimited = eqb c (2 ^ n); closed = eqb (c % 2) 1; posi
 abbrev pub endEdge : ℕ → ℕ → Edge
 endEdge n c = record { unlimited = eqb c (topCell n); closed = eqb (c % 2) 1; posit = patternAt n (c / 2) }
 
--- a limit is a posit above 0
-pub record AboveZero (n : ℕ) (x : Edge) : Type 0 where
-  pub above : x .unlimited ≡ false → 0 < x .posit
-  pub below-nar : x .unlimited ≡ false → x .posit < nar n
+-- a cell above that of 0
+pub record CellAbove (n c : ℕ) : Type 0 where
+  pub above : 2 ^ n ≤ c
+  pub there : c ≤ topCell n
 
 abbrev pub resultOf : Bool → Fraction → Fraction → Fraction
 resultOf true x y = x /ᶠ y
 resultOf false x y = x *ᶠ y
-
--- r knows the exact result of two decoded magnitudes
-abbrev pub ExactResult : Bool → ℤ → ℕ → ℤ → ℕ → Magnitude → Type 0
-ExactResult divide s g t h r = Knows (resultOf divide (finiteValue false s g) (finiteValue false t h)) r
 
 -- the cell of the exact result of two posits
 abbrev pub resultCell : ℕ → ℕ → Bool → ℕ → ℕ → ℕ

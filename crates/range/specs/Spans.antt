@@ -2,7 +2,7 @@
 -- the gaps below, between and above the posits. An interval with lo above hi is empty.
 use mathlib.Core.Path.{_≡_}
 use mathlib.Core.Bool.{Bool, true, false}
-use Prim.Native.Nat.{ℕ, zero, suc, _+_, _-_, _*_, _/_, _%_, _^_, _≤_}
+use Prim.Native.Nat.{ℕ, zero, suc, _+_, _-_, _*_, _/_, _%_, _^_, _≤_, _<_}
 use lib.Dec.{eqb, ltb}
 use Rattle.posit.specs.Format.{negated}
 use Rattle.range.specs.declared.inner.span.Span.{Span}
@@ -54,6 +54,12 @@ mirrored n s = pickSpan (ltb (s .hi) (s .lo)) (noCells n) (record { lo = topCell
 pub record Cells (n : ℕ) (s : Span) : Type 0 where
   pub low-there : s .lo ≤ topCell n + 1
   pub high-there : s .hi ≤ topCell n
+
+-- the cells of a real range: a first and a last one, or none
+pub record RealCells (n : ℕ) (s : Span) : Type 0 where
+  pub there : Cells n s
+  pub ordered : s .lo ≤ topCell n → s .lo ≤ s .hi
+  pub none : s .hi < s .lo → s ≡ noCells n
 
 -- the word of an interval of cells; the canonical empty word for none
 abbrev pickWord : Bool → ℕ → ℕ → ℕ

@@ -6,6 +6,7 @@ pub mod divide;
 pub mod float_end;
 pub mod judge;
 pub mod multiply;
+pub mod one_sign;
 pub mod operate;
 pub mod positive;
 pub mod signs;

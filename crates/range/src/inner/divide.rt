@@ -2,22 +2,51 @@
 ghost use mathlib.Core.Path.{_≡_};
 ghost use Rattle.posit.specs.Format.{Format};
 ghost use Rattle.range.specs.Member.{Real};
+ghost use Rattle.range.specs.Spans.{RealCells, wordAt};
+ghost use Rattle.range.specs.Signs.{quotientCells};
 ghost use Rattle.range.specs.Computed.{answerOf};
+use super::one_sign::have_one_sign;
+use super::one_sign::one_sign_quotients;
 use super::signs::has_other;
 use super::signs::has_zero;
 use super::signs::hull;
 use super::signs::signed_results;
 use super::signs::zero_if;
+use super::span::Span;
+use super::span::joined;
 use super::span::word_of;
 use super::word::cells_of;
+
+// The cells of all quotients, whatever the signs.
+fn quotients(n: u32, es: u32, x: Span, y: Span) -> Span
+    requires { ⌜ (Format n es) × (RealCells n x) × (RealCells n y) ⌝ }
+    ensures { λ r. ⌜ r ≡ quotientCells n es x y ⌝ }
+{
+    let signed = signed_results(n, es, true, x, y);
+    let zero = zero_if(n, has_zero(n, x), has_other(n, y));
+    hull(signed, zero)
+}
+
+// The quotient of two ranges that are given by their cells.
+pub fn divide_cells(n: u32, es: u32, x: Span, y: Span) -> u64
+    requires { ⌜ (Format n es) × (RealCells n x) × (RealCells n y) ⌝ }
+    ensures { λ r. ⌜ r ≡ wordAt n (quotientCells n es x y) ⌝ }
+{
+    if x.hi < x.lo {
+        return joined(n, 1, 1);
+    }
+    if y.hi < y.lo {
+        return joined(n, 1, 1);
+    }
+    if have_one_sign(n, x, y) {
+        return word_of(n, one_sign_quotients(n, es, x, y));
+    }
+    word_of(n, quotients(n, es, x, y))
+}
 
 pub fn divide_ranges(n: u32, es: u32, a: u64, b: u64) -> u64
     requires { ⌜ (Format n es) × (Real n a) × (Real n b) ⌝ }
     ensures { λ r. ⌜ r ≡ answerOf n es 3 a b ⌝ }
 {
-    let x = cells_of(n, a);
-    let y = cells_of(n, b);
-    let signed = signed_results(n, es, true, x, y);
-    let zero = zero_if(n, has_zero(n, x), has_other(n, y));
-    word_of(n, hull(signed, zero))
+    divide_cells(n, es, cells_of(n, a), cells_of(n, b))
 }

@@ -1,146 +1,170 @@
 // The cells of all products, or of all quotients, of two parts above 0.
 ghost use mathlib.Core.Path.{_≡_};
-ghost use Prim.Native.Nat.{_+_, _-_, _*_, _/_, _^_, _<_, _≤_};
+ghost use mathlib.Core.Bool.{true, false};
+ghost use Prim.Native.Nat.{_+_, _*_, _/_, _%_, _^_, _<_, _≤_};
 ghost use Rattle.posit.specs.Format as Spec;
 ghost use Rattle.posit.specs.Format.{Format};
-ghost use Rattle.posit.specs.Magnitudes.{SmallForm};
-ghost use Rattle.range.specs.Numbered.{patternAt};
+ghost use Rattle.posit.specs.Parts.{chosenBy};
 ghost use Rattle.range.specs.Spans.{topCell};
-ghost use Rattle.range.specs.Signs.{startEdge, endEdge, AboveZero, ExactResult, resultCell, firstCell, lastCell, PartAbove, positiveSome, positiveResults};
+ghost use Rattle.range.specs.Signs.{startEdge, endEdge, resultCell, CellAbove, firstCell, lastCell, PartAbove, positiveSome, positiveResults};
 use super::cell::cell_of;
 use super::span::Span;
 use super::span::no_cells;
 use super::span::top_cell;
-use posit::decoded::Decoded;
-use posit::inner::magnitude::Magnitude;
+use posit::inner::choose::chosen;
+use posit::inner::normal::normal_form;
+use posit::inner::normal_product::normal_product;
+use posit::inner::normal_quotient::normal_quotient;
 use posit::inner::power::power32;
-use posit::inner::product::product;
-use posit::inner::quotient::quotient;
-use posit::inner::unpack::unpack;
 
-// An end among the numbers above 0: no limit, or a posit that is a member itself or not.
-pub struct Edge {
-    pub unlimited: bool,
-    pub closed: bool,
-    pub posit: u32,
-}
-
-// The start at a cell.
-fn start_edge(n: u32, cell: u32) -> Edge
-    requires { ⌜ (3 ≤ n) × (n ≤ 16) × (2 ^ n ≤ cell) × (cell ≤ topCell n) ⌝ }
-    ensures { λ r. ⌜ r ≡ startEdge n cell ⌝ }
+// The posit at a start above 0, and the one at an end: they have no sign, so the number of a cell above that of 0 is enough.
+fn start_above(n: u32, cell: u32) -> u32
+    requires { ⌜ (3 ≤ n) × (n ≤ 16) × (2 ^ n < cell) × (cell ≤ topCell n) ⌝ }
+    ensures { λ r. ⌜ r ≡ startEdge n cell .posit ⌝ }
 {
-    let all = power32(n);
-    Edge {
-        unlimited: cell == all,
-        closed: cell % 2 == 1,
-        posit: ((cell - 1) / 2 + power32(n - 1) + 1) % all,
-    }
+    (cell + 1 - power32(n)) / 2
 }
 
-// The end at a cell.
-fn end_edge(n: u32, cell: u32) -> Edge
-    requires { ⌜ (3 ≤ n) × (n ≤ 16) × (2 ^ n ≤ cell) × (cell ≤ topCell n) ⌝ }
-    ensures { λ r. ⌜ r ≡ endEdge n cell ⌝ }
+fn end_above(n: u32, cell: u32) -> u32
+    requires { ⌜ (3 ≤ n) × (n ≤ 16) × (2 ^ n ≤ cell) × (cell < topCell n) ⌝ }
+    ensures { λ r. ⌜ r ≡ endEdge n cell .posit ⌝ }
 {
-    let all = power32(n);
-    Edge {
-        unlimited: cell == 2 * all - 2,
-        closed: cell % 2 == 1,
-        posit: (cell / 2 + power32(n - 1) + 1) % all,
-    }
+    (cell + 2 - power32(n)) / 2
 }
 
-// The exact product, or the quotient, of two decoded magnitudes.
-fn exact_result(divide: bool, s: i32, g: u32, t: i32, h: u32) -> Magnitude
-    requires { ⌜ (SmallForm s g) × (SmallForm t h) ⌝ }
-    ensures { λ r. ⌜ ExactResult divide s g t h r ⌝ }
-{
-    if divide {
-        return quotient(s, g, t, h);
-    }
-    product(s, g, t, h)
-}
-
-// The cell of the exact product, or of the exact quotient, of two posits above 0.
-fn result_cell(n: u32, es: u32, divide: bool, p: u32, q: u32) -> u32
+// The cell of the product of two posits above 0, and that of their quotient.
+fn product_cell(n: u32, es: u32, p: u32, q: u32) -> u32
     requires { ⌜ (Format n es) × (0 < p) × (p < Spec.nar n) × (0 < q) × (q < Spec.nar n) ⌝ }
-    ensures { λ r. ⌜ r ≡ resultCell n es divide p q ⌝ }
+    ensures { λ r. ⌜ r ≡ resultCell n es false p q ⌝ }
 {
-    match unpack(n, es, p) {
-        Decoded::Nar => 0,
-        Decoded::Zero => 0,
-        Decoded::Finite {
-            negative: less,
-            scale: s,
-            fraction: g,
-        } => match unpack(n, es, q) {
-            Decoded::Nar => 0,
-            Decoded::Zero => 0,
-            Decoded::Finite {
-                negative: under,
-                scale: t,
-                fraction: h,
-            } => cell_of(n, es, less != under, exact_result(divide, s, g, t, h)),
-        },
-    }
+    cell_of(
+        n,
+        es,
+        false,
+        normal_product(es, normal_form(n, es, p), normal_form(n, es, q)),
+    )
 }
 
-// The gap at or above a cell, and the gap at or below it.
-fn gap_above(cell: u32) -> u32
+fn quotient_cell(n: u32, es: u32, p: u32, q: u32) -> u32
+    requires { ⌜ (Format n es) × (0 < p) × (p < Spec.nar n) × (0 < q) × (q < Spec.nar n) ⌝ }
+    ensures { λ r. ⌜ r ≡ resultCell n es true p q ⌝ }
+{
+    cell_of(
+        n,
+        es,
+        false,
+        normal_quotient(normal_form(n, es, p), normal_form(n, es, q)),
+    )
+}
+
+// The cell of a result, or the gap above it unless the two ends are closed; a closed end has an odd cell.
+fn first_from(x: u32, y: u32, cell: u32) -> u32
     requires { ⌜ cell ≤ 131072 ⌝ }
-    ensures { λ r. ⌜ r ≡ 2 * ((cell + 1) / 2) ⌝ }
+    ensures { λ r. ⌜ r ≡ chosenBy (x % 2 * (y % 2)) (2 * ((cell + 1) / 2)) cell ⌝ }
 {
-    2 * ((cell + 1) / 2)
+    chosen(x % 2 * (y % 2), 2 * ((cell + 1) / 2), cell)
 }
 
-fn gap_below(cell: u32) -> u32
+// The cell of a result, or the gap below it unless the two ends are closed.
+fn last_from(x: u32, y: u32, cell: u32) -> u32
     requires { ⌜ cell ≤ 131072 ⌝ }
-    ensures { λ r. ⌜ r ≡ 2 * (cell / 2) ⌝ }
+    ensures { λ r. ⌜ r ≡ chosenBy (x % 2 * (y % 2)) (2 * (cell / 2)) cell ⌝ }
 {
-    2 * (cell / 2)
+    chosen(x % 2 * (y % 2), 2 * (cell / 2), cell)
 }
 
-// The first cell of the results that start at two ends.
-fn first_cell(n: u32, es: u32, divide: bool, x: Edge, y: Edge) -> u32
-    requires { ⌜ (Format n es) × (AboveZero n x) × (AboveZero n y) ⌝ }
-    ensures { λ r. ⌜ r ≡ firstCell n es divide x y ⌝ }
+// The first cell of the products from two starts on.
+fn product_first(n: u32, es: u32, x: u32, y: u32) -> u32
+    requires { ⌜ (Format n es) × (CellAbove n x) × (CellAbove n y) ⌝ }
+    ensures { λ r. ⌜ r ≡ firstCell n es false (startEdge n x) (startEdge n y) ⌝ }
 {
-    if x.unlimited {
-        return power32(n);
+    let first = power32(n);
+    if x == first {
+        return first;
     }
-    if y.unlimited {
-        return power32(n);
+    if y == first {
+        return first;
     }
-    let cell = result_cell(n, es, divide, x.posit, y.posit);
-    if x.closed {
-        if y.closed {
-            return cell;
-        }
-        return gap_above(cell);
-    }
-    gap_above(cell)
+    first_from(
+        x,
+        y,
+        product_cell(n, es, start_above(n, x), start_above(n, y)),
+    )
 }
 
-// The last cell of the results that end at two ends.
-fn last_cell(n: u32, es: u32, divide: bool, x: Edge, y: Edge) -> u32
-    requires { ⌜ (Format n es) × (AboveZero n x) × (AboveZero n y) ⌝ }
-    ensures { λ r. ⌜ r ≡ lastCell n es divide x y ⌝ }
+// The last cell of the products up to two ends.
+fn product_last(n: u32, es: u32, x: u32, y: u32) -> u32
+    requires { ⌜ (Format n es) × (CellAbove n x) × (CellAbove n y) ⌝ }
+    ensures { λ r. ⌜ r ≡ lastCell n es false (endEdge n x) (endEdge n y) ⌝ }
 {
-    if x.unlimited {
-        return top_cell(n);
+    let top = top_cell(n);
+    if x == top {
+        return top;
     }
-    if y.unlimited {
-        return top_cell(n);
+    if y == top {
+        return top;
     }
-    let cell = result_cell(n, es, divide, x.posit, y.posit);
-    if x.closed {
-        if y.closed {
-            return cell;
-        }
-        return gap_below(cell);
+    last_from(x, y, product_cell(n, es, end_above(n, x), end_above(n, y)))
+}
+
+// The first cell of the quotients from a start over an end on.
+fn quotient_first(n: u32, es: u32, x: u32, y: u32) -> u32
+    requires { ⌜ (Format n es) × (CellAbove n x) × (CellAbove n y) ⌝ }
+    ensures { λ r. ⌜ r ≡ firstCell n es true (startEdge n x) (endEdge n y) ⌝ }
+{
+    let first = power32(n);
+    if x == first {
+        return first;
     }
-    gap_below(cell)
+    if y == top_cell(n) {
+        return first;
+    }
+    first_from(
+        x,
+        y,
+        quotient_cell(n, es, start_above(n, x), end_above(n, y)),
+    )
+}
+
+// The last cell of the quotients up to an end over a start.
+fn quotient_last(n: u32, es: u32, x: u32, y: u32) -> u32
+    requires { ⌜ (Format n es) × (CellAbove n x) × (CellAbove n y) ⌝ }
+    ensures { λ r. ⌜ r ≡ lastCell n es true (endEdge n x) (startEdge n y) ⌝ }
+{
+    let top = top_cell(n);
+    if x == top {
+        return top;
+    }
+    if y == power32(n) {
+        return top;
+    }
+    last_from(
+        x,
+        y,
+        quotient_cell(n, es, end_above(n, x), start_above(n, y)),
+    )
+}
+
+// The products of two parts that have members.
+pub fn products_above(n: u32, es: u32, p: Span, q: Span) -> Span
+    requires { ⌜ (Format n es) × (PartAbove n p) × (PartAbove n q) × (p .lo ≤ topCell n) × (q .lo ≤ topCell n) ⌝ }
+    ensures { λ r. ⌜ r ≡ positiveSome n es false p q ⌝ }
+{
+    Span {
+        lo: product_first(n, es, p.lo, q.lo),
+        hi: product_last(n, es, p.hi, q.hi),
+    }
+}
+
+// Their quotients.
+pub fn quotients_above(n: u32, es: u32, p: Span, q: Span) -> Span
+    requires { ⌜ (Format n es) × (PartAbove n p) × (PartAbove n q) × (p .lo ≤ topCell n) × (q .lo ≤ topCell n) ⌝ }
+    ensures { λ r. ⌜ r ≡ positiveSome n es true p q ⌝ }
+{
+    Span {
+        lo: quotient_first(n, es, p.lo, q.hi),
+        hi: quotient_last(n, es, p.hi, q.lo),
+    }
 }
 
 // The results of two parts that have members.
@@ -148,20 +172,10 @@ fn positive_some(n: u32, es: u32, divide: bool, p: Span, q: Span) -> Span
     requires { ⌜ (Format n es) × (PartAbove n p) × (PartAbove n q) × (p .lo ≤ topCell n) × (q .lo ≤ topCell n) ⌝ }
     ensures { λ r. ⌜ r ≡ positiveSome n es divide p q ⌝ }
 {
-    let start = start_edge(n, p.lo);
-    let end = end_edge(n, p.hi);
-    let from = start_edge(n, q.lo);
-    let to = end_edge(n, q.hi);
     if divide {
-        return Span {
-            lo: first_cell(n, es, true, start, to),
-            hi: last_cell(n, es, true, end, from),
-        };
+        return quotients_above(n, es, p, q);
     }
-    Span {
-        lo: first_cell(n, es, false, start, from),
-        hi: last_cell(n, es, false, end, to),
-    }
+    products_above(n, es, p, q)
 }
 
 // The results of two parts; none where either is.

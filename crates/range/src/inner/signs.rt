@@ -57,7 +57,7 @@ pub fn hull(a: Span, b: Span) -> Span
 }
 
 // The cells of the negatives.
-fn turned_cells(n: u32, s: Span) -> Span
+pub fn turned_cells(n: u32, s: Span) -> Span
     requires { ⌜ (n ≤ 16) × (Cells n s) ⌝ }
     ensures { λ r. ⌜ r ≡ turnedCells n s ⌝ }
 {
