@@ -1,12 +1,13 @@
 -- The cell of an exact number above 0 from its floor among the patterns one bit longer: half of the floor is the posit at or below the number, and
 -- the number is that posit itself exactly where the floor is even and met.
 use mathlib.Core.Path.{_≡_, refl, sym, ap, _∙_}
-use mathlib.Core.Bool.{Bool, true, false}
+use mathlib.Core.Bool.{Bool, true, false, not, _&&_}
 use mathlib.Core.Logic.{_⊎_, inl, inr}
 use Prim.Native.Nat.{ℕ, suc, _+_, _-_, _*_, _/_, _%_, _^_, _≤_, _<_}
 use native.Mathlib.Nat.{mod-lt}
 use native.Mathlib.Omega.{arith}
 use lib.Pow.{pow-pos}
+use mir.Val.{boolByte}
 use Rattle.exact.specs.Fraction.{Fraction, _<ᶠ_, _≈_, negᶠ}
 use Rattle.exact.proofs.Order.{≤ᶠ-refl, ≈-trans, ≈-sym, <ᶠ-≈, ≈-<ᶠ, <ᶠ-≤ᶠ-trans, ≤ᶠ-<ᶠ-trans, clashᶠ}
 use Rattle.exact.proofs.Powers.{parity}
@@ -18,6 +19,7 @@ use Rattle.posit.specs.declared.inner.magnitude.Magnitude.{Magnitude}
 use Rattle.posit.specs.Format.{Format, nar, maxPos, Finite}
 use Rattle.posit.specs.Value.{value}
 use Rattle.posit.specs.Locating.{IsFloor, Locates, given}
+use Rattle.posit.specs.Parts.{chosenBy}
 use Rattle.posit.specs.Magnitudes.{Words, withSignᶠ}
 use Rattle.posit.proofs.Patterns.{some-bit, two-bits, nar-large, small-finite, increasing}
 use Rattle.posit.proofs.Mirror.{nar-is-half, power-wider}
@@ -136,6 +138,14 @@ module _ (n es : ℕ) (wide : 3 ≤ n) {x : Fraction} {L : ℕ} (f : IsFloor (n 
       by false e (inl z) = rw e (from-missed n L z ∙ omega (arith, in-gap (above-missed z (miss e)), pow-pos n))
 
 -- ---- the cell of a known magnitude
+and-false : (b : Bool) → (b && false) ≡ false
+and-false true = refl
+and-false false = refl
+
+and-true : (b : Bool) → (b && true) ≡ b
+and-true true = refl
+and-true false = refl
+
 module _ {n es : ℕ} (f : Format n es) {x : Magnitude} (w : Words x) {L : ℕ} {exact : Bool} (l : Locates n es (x .g) (x .s) (x .a) L exact) where
   wide : 3 ≤ n
   wide = f .wide-enough
@@ -143,17 +153,25 @@ module _ {n es : ℕ} (f : Format n es) {x : Magnitude} (w : Words x) {L : ℕ} 
   abbrev low : Fraction
   low = given (x .g) (x .s) (x .a)
 
-  pub lost-each : (negative : Bool) {p r : ℕ} → x .lost ≡ true → p ≡ cellFrom n L false → r ≡ cellWithSign n negative p → CellEach n es negative x r
+  lost-each : (negative : Bool) {p r : ℕ} → x .lost ≡ true → p ≡ cellFrom n L false → r ≡ cellWithSign n negative p → CellEach n es negative x r
   lost-each negative h i j z k =
       let s : cellFrom n L false ≡ cellOf n es z =
       cell-from-floor n es wide (l .floor z (k .at-least) (k .less)) (λ e. never e) (λ e. ≤ᶠ-<ᶠ-trans (l .floor low (≤ᶠ-refl low) (next-given (x .g) (x .s) (x .a)) .at-most) (k .more-than-it h)) in
       j ∙ ap (cellWithSign n negative) (i ∙ s) ∙ cell-with-sign n es wide negative z
 
-  pub kept-each : (negative : Bool) {p r : ℕ} → x .lost ≡ false → p ≡ cellFrom n L exact → r ≡ cellWithSign n negative p → CellEach n es negative x r
+  kept-each : (negative : Bool) {p r : ℕ} → x .lost ≡ false → p ≡ cellFrom n L exact → r ≡ cellWithSign n negative p → CellEach n es negative x r
   kept-each negative h i j z k =
       let s : cellFrom n L exact ≡ cellOf n es z =
       cell-from-floor n es wide (l .floor z (k .at-least) (k .less)) (λ e. ≈-trans (k .whole-of-it h) (l .hit e)) (λ e. <ᶠ-≈ (l .miss e) (≈-sym (k .whole-of-it h))) in
       j ∙ ap (cellWithSign n negative) (i ∙ s) ∙ cell-with-sign n es wide negative z
+
+  -- something lost is a number that is not met
+  pub found-each : (negative : Bool) {p r : ℕ} → p ≡ cellFrom n L (exact && not (x .lost)) → r ≡ cellWithSign n negative p → CellEach n es negative x r
+  found-each negative {r = r} i j = by (x .lost) refl
+    where
+      by : (b : Bool) → x .lost ≡ b → CellEach n es negative x r
+      by true e = lost-each negative e (i ∙ ap (cellFrom n L) (ap (λ (b : Bool). exact && not b) e ∙ and-false exact)) j
+      by false e = kept-each negative e (i ∙ ap (cellFrom n L) (ap (λ (b : Bool). exact && not b) e ∙ and-true exact)) j
 
 -- ---- bounds of the machine's numbers
 even-gap : (q k : ℕ) {L all : ℕ} → L ≡ 2 * q → all ≡ 2 * k → L < all → L + 2 ≤ all
@@ -171,22 +189,27 @@ pub from-fits-as : {n es : ℕ} → Format n es → {x : Magnitude} → Words x 
     → (b : Bool) {p : ℕ} → p ≡ cellFrom n L b → p ≤ topCell n
 from-fits-as f w l b e = rw e (from-fits (f .wide-enough) b (pattern-fits f w l))
 
--- ---- the machine's choices
-module _ (n L : ℕ) {all : ℕ} (exact : Bool) (is-all : all ≡ 2 ^ n) where
-  pub gives-odd : L % 2 ≡ 1 → all - 1 + L ≡ cellFrom n L exact
-  gives-odd o = omega (arith, from-odd n L exact o)
+-- ---- the machine's marks
+pub mark-fits : (b : Bool) → boolByte b ≤ 1
+mark-fits true = omega arith
+mark-fits false = omega arith
 
-  pub gives-met : (L % 2 ≡ 1 → ⊥) → exact ≡ true → all - 1 + L ≡ cellFrom n L exact
-  gives-met d e = rw e (omega (arith, from-met n L (omega arith)))
+pub gap-fits : (L : ℕ) (exact : Bool) → (1 - L % 2) * (1 - boolByte exact) ≤ 1
+gap-fits L true = omega arith
+gap-fits L false = omega arith
 
-  pub gives-missed : (L % 2 ≡ 1 → ⊥) → exact ≡ false → all - 1 + L + 1 ≡ cellFrom n L exact
-  gives-missed d e = rw e (omega (arith, from-missed n L (omega arith)))
+pub gives-cell : (n L : ℕ) (exact : Bool) {all : ℕ} → all ≡ 2 ^ n → all - 1 + L + (1 - L % 2) * (1 - boolByte exact) ≡ cellFrom n L exact
+gives-cell n L exact {all} e = by exact (parity L)
+  where
+    by : (b : Bool) → (L % 2 ≡ 0) ⊎ (L % 2 ≡ 1) → all - 1 + L + (1 - L % 2) * (1 - boolByte b) ≡ cellFrom n L b
+    by true (inl z) = omega (arith, from-met n L z)
+    by false (inl z) = omega (arith, from-missed n L z)
+    by true (inr o) = omega (arith, from-odd n L true o)
+    by false (inr o) = omega (arith, from-odd n L false o)
 
-pub gives-negative : (n c : ℕ) {negative : Bool} {top : ℕ} → negative ≡ true → top ≡ topCell n → top - c ≡ cellWithSign n negative c
-gives-negative n c e k = rw (e, k)
-
-pub gives-positive : (n c : ℕ) {negative : Bool} → negative ≡ false → c ≡ cellWithSign n negative c
-gives-positive n c e = rw e
+pub gives-sign : (n c : ℕ) (negative : Bool) {top r : ℕ} → top ≡ topCell n → r ≡ chosenBy (boolByte negative) c (top - c) → r ≡ cellWithSign n negative c
+gives-sign n c true e h = h ∙ ap (λ (t : ℕ). t - c) e
+gives-sign n c false e h = h
 
 -- ---- the posit beside a cell
 pub posit-fits : {n half : ℕ} (k : ℕ) → 3 ≤ n → n ≤ 16 → 2 * k ≤ topCell n → half ≡ 2 ^ (n - 1) → k + half + 1 < 2 ^ 32

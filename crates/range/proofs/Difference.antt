@@ -1,5 +1,5 @@
 -- The difference of two ranges is the sum of the first and the negated second: its members are the negatives, so that both have the same results.
-use mathlib.Core.Path.{_≡_, ap, _∙_, subst}
+use mathlib.Core.Path.{_≡_, sym, ap, _∙_, subst}
 use mathlib.Core.Logic.{_↔_}
 use Prim.Native.Nat.{ℕ, _-_, _≤_, _<_}
 use native.Mathlib.Omega.{arith}
@@ -9,19 +9,22 @@ use Rattle.exact.proofs.Order.{≈-refl, ≈-sym, ≈-trans}
 use Rattle.exact.proofs.Sum.{+ᶠ-cong, -ᶠ-is, negᶠ-negᶠ}
 use Rattle.bound.specs.Fractions.{fractions}
 use Rattle.bound.proofs.Extent.{spans-of-same-set}
+use Rattle.range.specs.declared.inner.span.Span.{Span}
 use Rattle.range.specs.Member.{Real, Member}
 use Rattle.range.specs.Smallest.{IsAnswer, Result}
 use Rattle.range.specs.Calls.{Negative}
 use Rattle.range.specs.Spans.{topCell, noCells, cellsOf, mirrored, wordAt}
 use Rattle.range.specs.Computed.{answerOf}
+use Rattle.range.specs.Cells.{sumCells}
 use Rattle.range.proofs.RealWords.{cells-there}
 use Rattle.range.proofs.Members.{member-cells}
-use Rattle.range.proofs.WordAt.{word-at-none}
+use Rattle.range.proofs.WordAt.{word-at-none, cells-at, empty-word-cells}
 use Rattle.range.proofs.Answers.{member-at, empty-word-has-none}
 use Rattle.range.proofs.OneWord.{one-answer}
 use Rattle.range.proofs.Mirrored.{mirrored-some, mirrored-none, negation-answer}
 use Rattle.range.proofs.Computed.{cell-computed, results-span, extent-answer, answer-is}
 use Rattle.range.proofs.CellFrom.{cell-bounded, cell-negated}
+use Rattle.range.proofs.SumRange.{sum-found}
 
 module _ (n es : ℕ) (wide : 3 ≤ n) {b : ℕ} (r : Real n b) where
   -- ---- the members of the mirrored cells
@@ -66,7 +69,30 @@ module _ (n es : ℕ) (wide : 3 ≤ n) {b : ℕ} (r : Real n b) where
           },
     )
 
-    pub difference-is-sum : (a : ℕ) → answerOf n es 0 a t ≡ answerOf n es 1 a b
+    difference-is-sum : (a : ℕ) → answerOf n es 0 a t ≡ answerOf n es 1 a b
     unfolding answerOf
     difference-is-sum a =
         answer-is n es 1 a b wide (omega arith) (extent-answer n es wide (spans-of-same-set fractions (same-results a) (results-span n es a t 0 (omega arith))))
+
+    -- ---- the negated range has the cells of the negatives
+    negated-cells : cellsOf n t ≡ mirrored n (cellsOf n b)
+    negated-cells = ap (cellsOf n) (one-answer n es wide h (negation-answer n es wide r)) ∙ by (decLt (cellsOf n b .hi) (cellsOf n b .lo))
+      where
+        by : Dec (cellsOf n b .hi < cellsOf n b .lo) → cellsOf n (wordAt n (mirrored n (cellsOf n b))) ≡ mirrored n (cellsOf n b)
+        by (yes l) =
+            let m = mirrored-none n (cellsOf n b) l in
+            ap (λ (s : Span). cellsOf n (wordAt n s)) m ∙ ap (cellsOf n) (word-at-none n (noCells n) (omega arith)) ∙ empty-word-cells n wide ∙ sym m
+        by (no l) =
+            let c = cells-there n wide r in
+            let m = mirrored-some n (cellsOf n b) (omega arith) in
+            ap (λ (s : Span). cellsOf n (wordAt n s)) m
+            ∙ cells-at n wide (record { lo = topCell n - cellsOf n b .hi; hi = topCell n - cellsOf n b .lo }) (omega (arith, c)) (omega (arith, c)) ∙ sym m
+
+    pub negative-word : (x : Span) {y : Span} → y ≡ cellsOf n t → {w : ℕ} → w ≡ wordAt n (sumCells n es x y) → w ≡ wordAt n (sumCells n es x (mirrored n (cellsOf n b)))
+    negative-word x i k = k ∙ ap (λ (y : Span). wordAt n (sumCells n es x y)) (i ∙ negated-cells)
+
+  pub difference-found :
+      {a : ℕ} → Real n a → {x : Span} → x ≡ cellsOf n a → {w : ℕ} → w ≡ wordAt n (sumCells n es x (mirrored n (cellsOf n b))) → w ≡ answerOf n es 1 a b
+  difference-found {a} q i k =
+      let h = negation-answer n es wide r in
+      sum-found n es wide q (h .smallest .real) i (sym (negated-cells h)) k ∙ difference-is-sum h a

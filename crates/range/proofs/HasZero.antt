@@ -1,8 +1,8 @@
 -- 0 is a member of a real range exactly where its cell, the middle one, is one of the range's cells.
 use mathlib.Core.Path.{_≡_, refl, sym}
-use mathlib.Core.Bool.{Bool, true, false}
+use mathlib.Core.Bool.{Bool, true, false, _&&_}
 use mathlib.Core.Logic.{_↔_}
-use Prim.Native.Nat.{ℕ, _-_, _^_, _≤_, _<_}
+use Prim.Native.Nat.{ℕ, _≤_}
 use native.Mathlib.Omega.{arith}
 use lib.IntN.{pos}
 use lib.Dec.{leb}
@@ -14,6 +14,7 @@ use Rattle.posit.proofs.Exactly.{never}
 use Rattle.range.specs.declared.inner.span.Span.{Span}
 use Rattle.range.specs.Member.{Real, Member, isMember}
 use Rattle.range.specs.Spans.{cellsOf}
+use Rattle.range.specs.Signs.{zeroCell, hasZero}
 use Rattle.range.proofs.Members.{member-cells, is-member}
 use Rattle.range.proofs.Computed.{cell-computed}
 use Rattle.range.proofs.SumCells.{cell-of-zero}
@@ -24,19 +25,20 @@ by-test true i j false f g = g (j .0 (i .0 refl))
 by-test false i j true f g = sym (i .1 (j .1 (f refl)))
 by-test false i j false f g = refl
 
-module _ {n es b : ℕ} (f : Format n es) (r : Real n b) {x : Span} (e : x ≡ cellsOf n b) {all : ℕ} (h : all ≡ 2 ^ n) where
-  zero-cells : Member n es b (whole (pos 0)) ↔ ((x .lo ≤ all - 1) × (all - 1 ≤ x .hi))
+both-true : (a b : Bool) → (a && b) ≡ true → (a ≡ true) × (b ≡ true)
+both-true true b e = (refl, e)
+both-true false b e = never e
+
+module _ {n es b : ℕ} (f : Format n es) (r : Real n b) {x : Span} (e : x ≡ cellsOf n b) where
+  zero-cells : Member n es b (whole (pos 0)) ↔ ((x .lo ≤ zeroCell n) × (zeroCell n ≤ x .hi))
   zero-cells =
       let z = cell-of-zero n es (f .wide-enough) {z = whole (pos 0)} (≈-refl (whole (pos 0))) in
       let c = cell-computed n es (f .wide-enough) (whole (pos 0)) in
       let (i, j) = member-cells n es (f .wide-enough) r (whole (pos 0)) in
       rw e (λ m. let k = i m in (omega (arith, k, z, c), omega (arith, k, z, c)), λ k. j (omega (arith, k, z, c), omega (arith, k, z, c)))
 
-  pub zero-before-end : x .lo ≤ all - 1 → leb (all - 1) (x .hi) ≡ isMember n es b (whole (pos 0))
-  zero-before-end l =
-      by-test (isMember n es b (whole (pos 0))) (is-member n es b (whole (pos 0))) zero-cells (leb (all - 1) (x .hi))
-      (λ t. (l, leb-true (all - 1) (x .hi) t)) (λ q. le-leb (all - 1) (x .hi) (q .1))
-
-  pub zero-before-start : all - 1 < x .lo → false ≡ isMember n es b (whole (pos 0))
-  zero-before-start l =
-      by-test (isMember n es b (whole (pos 0))) (is-member n es b (whole (pos 0))) zero-cells false (λ t. never t) (λ q. absurd (omega arith))
+  pub zero-member : hasZero n x ≡ isMember n es b (whole (pos 0))
+  zero-member =
+      by-test (isMember n es b (whole (pos 0))) (is-member n es b (whole (pos 0))) zero-cells (hasZero n x)
+      (λ t. let (p, q) = both-true (leb (x .lo) (zeroCell n)) (leb (zeroCell n) (x .hi)) t in (leb-true (x .lo) (zeroCell n) p, leb-true (zeroCell n) (x .hi) q))
+      (λ q. rw (le-leb (x .lo) (zeroCell n) (q .0), le-leb (zeroCell n) (x .hi) (q .1)))

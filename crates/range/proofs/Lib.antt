@@ -14,8 +14,8 @@ pub mod Mirrored
 pub mod Negation
 pub mod Subsets
 pub mod Tiles
-pub mod HoldsInfinity
 pub mod Verdicts
+pub mod Taking
 pub mod Replies
 pub mod Turning
 pub mod Computed

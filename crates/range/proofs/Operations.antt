@@ -6,6 +6,7 @@ use mathlib.Core.Logic.{_≢_}
 use mathlib.Core.List.{List, [], _∷_}
 use Prim.Native.Nat.{ℕ, _≤_, _<_}
 use native.Mathlib.Nat.{le-refl}
+use native.Mathlib.Omega.{arith}
 use native.Mathlib.Decide.{ℕ-discrete}
 use lib.IntN.{pos}
 use lib.Dec.{eqb}
@@ -13,16 +14,29 @@ use borrow.Author.Tests.{lt-ltb, le-ltb, lt-leb, not-false}
 use Rattle.exact.specs.Fraction.{whole}
 use Rattle.posit.specs.Format.{Format, isFormat}
 use Rattle.posit.specs.Arithmetic.{divide}
+use Rattle.posit.specs.Operation.{plus, minus, times, over}
 use Rattle.posit.specs.Refusal.{Verdict, Test, firstHit, left, right, formatTest, operationTest}
 use Rattle.posit.proofs.Verdicts.{hits, passes, none-hits, answers-done, answers-refused, format-of}
 use Rattle.range.specs.declared.answer.WordAnswer.{WordAnswer}
-use Rattle.range.specs.declared.inner.judge.Judged.{Judged}
+use Rattle.range.specs.declared.inner.span.Span.{Span}
+use Rattle.range.specs.declared.inner.operands.Operands.{Operands}
+use Rattle.range.specs.declared.inner.operands.Operands.the-variants as operands
 use Rattle.range.specs.Word.{words}
 use Rattle.range.specs.Member.{Real, isMember}
 use Rattle.range.specs.Refusal.{verdictOfRanges, verdictOfRangeOperation, wordTest, infinityTest, operandTests, divisorTest}
-use Rattle.range.specs.Calls.{SaysVerdict, OperationOf, doneWord, refusedWord}
+use Rattle.range.specs.Calls.{OperationOf, doneWord, refusedWord}
+use Rattle.range.specs.Spans.{cellsOf, mirrored, Cells, RealCells, wordAt}
+use Rattle.range.specs.Cells.{sumCells}
+use Rattle.range.specs.Signs.{hasZero, productCells, quotientCells}
+use Rattle.range.specs.Taking.{TakesBoth}
 use Rattle.range.specs.Computed.{answerOf}
 use Rattle.range.proofs.Verdicts.{refusal-stays, passed, says-by, refused-as-said, ranges-format, ranges-real}
+use Rattle.range.proofs.Taking.{refused-both, passed-both, both-refused}
+use Rattle.range.proofs.RealWords.{cells-at-hand, real-cells-at-hand}
+use Rattle.range.proofs.HasZero.{zero-member}
+use Rattle.range.proofs.SumRange.{sum-found}
+use Rattle.range.proofs.Difference.{difference-found}
+use Rattle.range.proofs.ByStages.{product-found, quotient-found}
 use Rattle.range.proofs.OneWord.{one-answer}
 use Rattle.range.proofs.Computed.{answer-computed}
 
@@ -76,29 +90,66 @@ module _ (n es op a b : ℕ) where
         ∙ passes (wordTest n left a) _ (lt-leb (words n) a (q .fits)) ∙ passes (infinityTest n left a) _ (q .no-infinity)
         ∙ passes (wordTest n right b) _ (lt-leb (words n) b (r .fits)) ∙ passes (infinityTest n right b) _ (r .no-infinity)
 
--- ---- the call
-module _ (n es a b : ℕ) {j : Judged} (s : SaysVerdict (verdictOfRanges n es a b) j) where
-  zero-number : j .number ≡ 0 → verdictOfRanges n es a b .number ≡ 0
-  zero-number z = sym (s .number) ∙ z
+-- ---- the call, by what was taken of its operands
+module _ (n es a b : ℕ) {o : Operands} (t : TakesBoth n es a b o) where
+  module _ {x y : Span} (e : o ≡ operands.Cells x y) where
+    pub call-asks : Format n es × Real n a × Real n b
+    call-asks = let z = passed-both n es a b t e .passes in let (q, r) = ranges-real n es a b z in (ranges-format n es a b z, q, r)
 
-  pub call-asks : j .number ≡ 0 → Format n es × Real n a × Real n b
-  call-asks z = let (q, r) = ranges-real n es a b (zero-number z) in (ranges-format n es a b (zero-number z), q, r)
+    pub call-cells : Format n es × Cells n x × Cells n y
+    call-cells =
+        let (f, q, r) = call-asks in
+        (f, cells-at-hand f q (passed-both n es a b t e .left-cells), cells-at-hand f r (passed-both n es a b t e .right-cells))
+
+    pub call-real-cells : Format n es × RealCells n x × RealCells n y
+    call-real-cells =
+        let (f, q, r) = call-asks in
+        (f, real-cells-at-hand f q (passed-both n es a b t e .left-cells), real-cells-at-hand f r (passed-both n es a b t e .right-cells))
+
+    pub zero-of-right : hasZero n y ≡ isMember n es b (whole (pos 0))
+    zero-of-right = let (f, q, r) = call-asks in zero-member f r (passed-both n es a b t e .right-cells)
 
   module _ (op : ℕ) (known : op ≤ 3) where
-    pub call-refused : {t : WordAnswer} → j .number ≢ 0 → t ≡ refusedWord (j .number) (j .place) → OperationOf n es op a b t
-    call-refused d e = rw e (refused-as-said (says-by (operation-refused n es op a b known (λ z. d (s .number ∙ z))) s) d refl)
+    pub call-refused : {number place : ℕ} → o ≡ operands.Refused number place → {u : WordAnswer} → u ≡ refusedWord number place → OperationOf n es op a b u
+    call-refused e i =
+        let f = refused-both n es a b t e in
+        rw i (refused-as-said (says-by (operation-refused n es op a b known (λ z. f .refuses (f .number-is ∙ z))) (both-refused n es a b t e)) (f .refuses) refl)
 
     pub call-done :
-        {t : WordAnswer} {w : ℕ} → j .number ≡ 0 → (eqb op divide && isMember n es b (whole (pos 0))) ≡ false → w ≡ answerOf n es op a b
-        → t ≡ doneWord w → OperationOf n es op a b t
-    call-done z k h e =
-        rw (e, h)
-        (answers-done (operation-divisor n es op a b known (zero-number z) ∙ passes (divisorTest n es op b) _ k ∙ none-hits)
-        (answer-computed n es op a b (call-asks z .0 .wide-enough) known))
+        {x y : Span} → o ≡ operands.Cells x y → {u : WordAnswer} {w : ℕ} → (eqb op divide && isMember n es b (whole (pos 0))) ≡ false → w ≡ answerOf n es op a b
+        → u ≡ doneWord w → OperationOf n es op a b u
+    call-done e k h i =
+        rw (i, h)
+        (answers-done (operation-divisor n es op a b known (passed-both n es a b t e .passes) ∙ passes (divisorTest n es op b) _ k ∙ none-hits)
+        (answer-computed n es op a b (call-asks e .0 .wide-enough) known))
 
-  pub call-zero-divisor : {t : WordAnswer} → j .number ≡ 0 → isMember n es b (whole (pos 0)) ≡ true → t ≡ refusedWord 5 1 → OperationOf n es divide a b t
-  call-zero-divisor z k e =
-      rw e (answers-refused (operation-divisor n es divide a b (le-refl 3) (zero-number z) ∙ hits (divisorTest n es divide b) _ k) refl)
+  module _ {x y : Span} (e : o ≡ operands.Cells x y) {u : WordAnswer} {w : ℕ} where
+    pub sum-done : w ≡ wordAt n (sumCells n es x y) → u ≡ doneWord w → OperationOf n es plus a b u
+    sum-done h =
+        let (f, q, r) = call-asks e in
+        let k = passed-both n es a b t e in
+        call-done plus (omega arith) e refl (sum-found n es (f .wide-enough) q r (k .left-cells) (k .right-cells) h)
+
+    pub difference-done : w ≡ wordAt n (sumCells n es x (mirrored n (cellsOf n b))) → u ≡ doneWord w → OperationOf n es minus a b u
+    difference-done h =
+        let (f, q, r) = call-asks e in
+        call-done minus (omega arith) e refl (difference-found n es (f .wide-enough) r q (passed-both n es a b t e .left-cells) h)
+
+    pub product-done : w ≡ wordAt n (productCells n es x y) → u ≡ doneWord w → OperationOf n es times a b u
+    product-done h =
+        let (f, q, r) = call-asks e in
+        let k = passed-both n es a b t e in
+        call-done times (omega arith) e refl (product-found n es (f .wide-enough) q r (k .left-cells) (k .right-cells) h)
+
+    pub quotient-done : hasZero n y ≡ false → w ≡ wordAt n (quotientCells n es x y) → u ≡ doneWord w → OperationOf n es over a b u
+    quotient-done z h =
+        let (f, q, r) = call-asks e in
+        let k = passed-both n es a b t e in
+        call-done over (omega arith) e (sym (zero-of-right e) ∙ z) (quotient-found n es (f .wide-enough) q r (k .left-cells) (k .right-cells) h)
+
+  pub call-zero-divisor : {x y : Span} → o ≡ operands.Cells x y → isMember n es b (whole (pos 0)) ≡ true → {u : WordAnswer} → u ≡ refusedWord 5 1 → OperationOf n es divide a b u
+  call-zero-divisor e k i =
+      rw i (answers-refused (operation-divisor n es divide a b (le-refl 3) (passed-both n es a b t e .passes) ∙ hits (divisorTest n es divide b) _ k) refl)
 
 -- ---- so a call has one answer, refused or not
 module _ (n es op a b : ℕ) {x y : WordAnswer} (p : OperationOf n es op a b x) (q : OperationOf n es op a b y) where

@@ -5,6 +5,8 @@ use mathlib.Core.Logic.{_≢_, _↔_}
 use Prim.Native.Nat.{ℕ, _*_, _%_, _≤_, _<_}
 use native.Mathlib.Omega.{arith}
 use borrow.Author.Tests.{lt-ltb, le-ltb}
+use Rattle.posit.specs.Format.{Format}
+use Rattle.range.specs.declared.inner.span.Span.{Span}
 use Rattle.range.specs.Word.{words, empty, kind, isInfinite, startTile, endTile, closedNar, openNar}
 use Rattle.range.specs.Member.{Real}
 use Rattle.range.specs.Numbered.{count}
@@ -77,6 +79,12 @@ module _ (n : ℕ) (wide : 3 ≤ n) {w : ℕ} (r : Real n w) where
 
   pub high-there : cellsOf n w .hi ≤ 2 * count n
   high-there = omega (arith, cells-there .high-there, top-cell n wide)
+
+pub cells-at-hand : {n es w : ℕ} → Format n es → Real n w → {x : Span} → x ≡ cellsOf n w → Cells n x
+cells-at-hand {n} f r e = rw e (cells-there n (f .wide-enough) r)
+
+pub real-cells-at-hand : {n es w : ℕ} → Format n es → Real n w → {x : Span} → x ≡ cellsOf n w → RealCells n x
+real-cells-at-hand {n} f r e = rw e (real-cells n (f .wide-enough) r)
 
 -- ---- the empty words
 module _ (n : ℕ) (wide : 3 ≤ n) where

@@ -5,39 +5,72 @@ use mathlib.Core.Bool.{Bool}
 use mathlib.Core.Logic.{_⊎_, inl, inr}
 use Prim.Native.Nat.{ℕ, zero, suc, _+_, _-_, _*_, _/_, _%_, _^_, _≤_, _<_}
 use native.Mathlib.Omega.{arith}
-use lib.IntN.{ℤ, pos}
-use mir.Syntax.{w32}
-use mir.Val.{toZ, ofZ}
+use lib.IntN.{pos}
+use lib.Dec.{leb}
+use mir.Val.{boolByte}
+use borrow.Author.Tests.{le-leb, lt-leb}
 use Rattle.exact.specs.Fraction.{Fraction, _≈_, whole, _+ᶠ_}
 use Rattle.exact.proofs.Order.{≈-refl, ≈-sym, ≈-trans, _⨾_}
-use Rattle.exact.proofs.Sum.{+ᶠ-cong, +ᶠ-idl, +ᶠ-idr}
+use Rattle.exact.proofs.Sum.{+ᶠ-cong, +ᶠ-idl, +ᶠ-idr, negᶠ-cong}
 use Rattle.exact.proofs.Powers.{parity}
 use Rattle.bound.specs.Bound.{Bound, none, closed-at, open-at, map-bound}
 use Rattle.bound.specs.Operation.{both}
 use Rattle.bound.specs.Cell.{start-of, end-of}
 use Rattle.bound.specs.End.{read-start, read-end}
-use Rattle.posit.specs.declared.decoded.Decoded.{Decoded}
-use Rattle.posit.specs.declared.decoded.Decoded.the-variants.{Finite}
 use Rattle.posit.specs.declared.inner.magnitude.Magnitude.{Magnitude}
 use Rattle.posit.specs.declared.inner.sum.Sum.{Sum}
 use Rattle.posit.specs.declared.inner.sum.Sum.the-variants.{Nothing, Something}
+use Rattle.posit.specs.declared.inner.normal.Normal.{Normal}
 use Rattle.posit.specs.Format as Spec
+use Rattle.posit.specs.Format.{Format}
+use Rattle.posit.specs.Parts.{chosenBy}
+use Rattle.posit.specs.Normals.{normalValue, NormalOf}
 use Rattle.posit.specs.Value.{value}
-use Rattle.posit.specs.Decoding.{finiteValue}
-use Rattle.posit.specs.Magnitudes.{withSignᶠ, Unpacks, Knows, IsSum}
+use Rattle.posit.specs.Magnitudes.{withSignᶠ, Knows, IsSum}
 use Rattle.posit.proofs.Patterns.{some-bit, nar-large, small-finite}
-use Rattle.posit.proofs.SmallScale.{kept}
-use Rattle.posit.proofs.Operated.{zero-value, is-finite, is-small}
+use Rattle.posit.proofs.Operated.{zero-value}
 use Rattle.posit.proofs.Summed.{sign-twice}
-use Rattle.posit.proofs.Mirror.{power-wider}
+use Rattle.posit.proofs.Mirror.{nar-is-half, power-wider, Side, below, above, side, negated-positive, value-above}
+use Rattle.range.specs.declared.inner.signed.Signed.{Signed}
 use Rattle.range.specs.Numbered.{count, patternAt, numberOf, valueAt}
 use Rattle.range.specs.Spans.{topCell}
 use Rattle.range.specs.Computed.{cellOf}
-use Rattle.range.specs.Cells.{CellEach, sumStart, sumEnd}
+use Rattle.range.specs.Cells.{CellEach, SignedOf, sumStart, sumEnd}
 use Rattle.range.proofs.Grid.{half, nar-positive, number-below, pattern-finite}
 use Rattle.range.proofs.Places.{top-cell}
 use Rattle.range.proofs.Tiles.{half-small}
 use Rattle.range.proofs.CellFrom.{cell-bounded, cell-same, cell-of-posit}
+
+-- ---- a posit with its sign apart
+module _ {n es p half turned : ℕ} (f : Format n es) (g : Spec.Finite n p) (more : 0 < p) (is-half : half ≡ Spec.nar n) (is-turned : turned ≡ Spec.negated n p) where
+  abbrev size : ℕ
+  size = chosenBy (boolByte (leb half p)) p turned
+
+  positive : p < Spec.nar n → size ≡ p
+  positive h = rw (lt-leb half p (omega arith))
+
+  negative : Spec.nar n < p → size ≡ Spec.negated n p
+  negative h = rw (le-leb half p (omega arith)) is-turned
+
+  turned-fits : Spec.nar n < p → (0 < Spec.negated n p) × (Spec.negated n p < Spec.nar n)
+  turned-fits h =
+      let e = negated-positive n {p = p} more (g .fits) in
+      (omega (arith, e, g .fits), omega (arith, e, nar-is-half n (some-bit n (f .wide-enough))))
+
+  pub size-fits : {m : ℕ} → m ≡ size → (0 < m) × (m < Spec.nar n)
+  size-fits {m} e = by (side g)
+    where
+      by : Side n p → (0 < m) × (m < Spec.nar n)
+      by (below h) = rw (e ∙ positive h) (more, h)
+      by (above h u) = rw (e ∙ negative h) (turned-fits h)
+
+  pub signed-of : {m : ℕ} {x : Normal} → m ≡ size → NormalOf n es m x → SignedOf n es p (record { negative = leb half p; size = x })
+  signed-of {m} {x} e k = record { normal = k .normal; says = by (side g) }
+    where
+      by : Side n p → withSignᶠ (leb half p) (normalValue es x) ≈ value n es p
+      by (below h) = rw (lt-leb half p (omega arith)) (rw (e ∙ positive h) at (k .says))
+      by (above h u) =
+          rw (le-leb half p (omega arith), value-above n es (some-bit n (f .wide-enough)) h u) (negᶠ-cong (rw (e ∙ negative h) at (k .says)))
 
 -- ---- the cell of an exact sum
 module _ (n es : ℕ) (wide : 3 ≤ n) where
@@ -62,14 +95,42 @@ module _ (n es : ℕ) (wide : 3 ≤ n) where
   pub zero-right : {p q r : ℕ} → Spec.Finite n p → q ≡ 0 → r ≡ 2 * numberOf n p + 1 → r ≡ cellOf n es (value n es p +ᶠ value n es q)
   zero-right {p} f e h = h ∙ sym (cell-of-posit n es wide f (+ᶠ-cong (≈-refl (value n es p)) (zero-value n es e) ⨾ +ᶠ-idr (value n es p)))
 
-  pub numbers-cell :
-      {p q r : ℕ} {d e : Decoded} {a b : Bool} {s t : ℤ} {g h : ℕ} → Unpacks n es p d → Unpacks n es q e → d ≡ Finite a s g → e ≡ Finite b t h
-      → r ≡ cellOf n es (finiteValue a (toZ w32 (ofZ w32 s)) g +ᶠ finiteValue b (toZ w32 (ofZ w32 t)) h) → r ≡ cellOf n es (value n es p +ᶠ value n es q)
-  numbers-cell u v i j k =
-      (rw (kept (is-small u i), kept (is-small v j)) at k) ∙ cell-same n es wide (+ᶠ-cong (is-finite u i .means) (is-finite v j .means))
+  pub signed-sum : {p q : ℕ} {x y : Signed} → SignedOf n es p x → SignedOf n es q y
+      → cellOf n es (withSignᶠ (x .negative) (normalValue es (x .size)) +ᶠ withSignᶠ (y .negative) (normalValue es (y .size))) ≡ cellOf n es (value n es p +ᶠ value n es q)
+  signed-sum i j = cell-same n es wide (+ᶠ-cong (i .says) (j .says))
 
   pub cell-small : (z : Fraction) {c : ℕ} → n ≤ 16 → c ≡ cellOf n es z → c ≤ 131070
   cell-small z h e = omega (arith, cell-bounded n es wide z, power-wider n, half-small h)
+
+-- ---- the mark of an open sum: 0 where both ends are closed, else 1
+abbrev gapMark : ℕ → ℕ → ℕ
+gapMark x y = 1 - x % 2 * (y % 2)
+
+mark-by : (x y : ℕ) → ((x % 2 + y % 2 ≡ 2) × (gapMark x y ≡ 0)) ⊎ ((x % 2 + y % 2 ≡ 2 → ⊥) × (gapMark x y ≡ 1))
+mark-by x y = by (parity x) (parity y)
+  where
+    by : (x % 2 ≡ 0) ⊎ (x % 2 ≡ 1) → (y % 2 ≡ 0) ⊎ (y % 2 ≡ 1)
+        → ((x % 2 + y % 2 ≡ 2) × (gapMark x y ≡ 0)) ⊎ ((x % 2 + y % 2 ≡ 2 → ⊥) × (gapMark x y ≡ 1))
+    by (inl s) (inl t) = inr (omega arith, rw (s, t) refl)
+    by (inl s) (inr t) = inr (omega arith, rw (s, t) refl)
+    by (inr s) (inl t) = inr (omega arith, rw (s, t) refl)
+    by (inr s) (inr t) = inl (omega arith, rw (s, t) refl)
+
+pub marks-small : (x y : ℕ) → x % 2 * (y % 2) ≤ 1
+marks-small x y = by (parity x) (parity y)
+  where
+    by : (x % 2 ≡ 0) ⊎ (x % 2 ≡ 1) → (y % 2 ≡ 0) ⊎ (y % 2 ≡ 1) → x % 2 * (y % 2) ≤ 1
+    by (inl s) (inl t) = rw (s, t) (omega arith)
+    by (inl s) (inr t) = rw (s, t) (omega arith)
+    by (inr s) (inl t) = rw (s, t) (omega arith)
+    by (inr s) (inr t) = rw (s, t) (omega arith)
+
+pub moved-small : (c x y : ℕ) → c % 2 * (1 - x % 2 * (y % 2)) ≤ c % 2
+moved-small c x y = by (mark-by x y)
+  where
+    by : ((x % 2 + y % 2 ≡ 2) × (gapMark x y ≡ 0)) ⊎ ((x % 2 + y % 2 ≡ 2 → ⊥) × (gapMark x y ≡ 1)) → c % 2 * (1 - x % 2 * (y % 2)) ≤ c % 2
+    by (inl (k, m)) = rw m (omega arith)
+    by (inr (k, m)) = rw m (omega arith)
 
 -- ---- a cell read as an end
 pub read-odd : (c : ℕ) → c % 2 ≡ 1 → read-start c ≡ closed-at ((c - 1) / 2)
@@ -122,11 +183,11 @@ module _ (n es : ℕ) (wide : 3 ≤ n) where
     here : c ≡ cellOf n es (valueAt n es ((x - 1) / 2) +ᶠ valueAt n es ((y - 1) / 2))
     here = rw (i, j) at e
 
-    pub start-closed : x % 2 + y % 2 ≡ 2 → c ≡ sumStart n es x y
+    start-closed : x % 2 + y % 2 ≡ 2 → c ≡ sumStart n es x y
     unfolding both
     start-closed h = rw (read-odd x (omega arith), read-odd y (omega arith)) here
 
-    pub start-open : (x ≡ 0 → ⊥) → (y ≡ 0 → ⊥) → (x % 2 + y % 2 ≡ 2 → ⊥) → 2 * ((c + 1) / 2) ≡ sumStart n es x y
+    start-open : (x ≡ 0 → ⊥) → (y ≡ 0 → ⊥) → (x % 2 + y % 2 ≡ 2 → ⊥) → 2 * ((c + 1) / 2) ≡ sumStart n es x y
     unfolding both
     start-open k l h = by (parity x) (parity y)
       where
@@ -135,6 +196,13 @@ module _ (n es : ℕ) (wide : 3 ≤ n) where
         by (inl s) (inr t) = rw (read-even x (omega arith) s, read-odd y t, here) refl
         by (inr s) (inl t) = rw (read-odd x s, read-even y (omega arith) t, here) refl
         by (inr s) (inr t) = absurd (h (omega arith))
+
+    pub start-found : (x ≡ 0 → ⊥) → (y ≡ 0 → ⊥) → c + c % 2 * (1 - x % 2 * (y % 2)) ≡ sumStart n es x y
+    start-found i j = by (mark-by x y)
+      where
+        by : ((x % 2 + y % 2 ≡ 2) × (gapMark x y ≡ 0)) ⊎ ((x % 2 + y % 2 ≡ 2 → ⊥) × (gapMark x y ≡ 1)) → c + c % 2 * (1 - x % 2 * (y % 2)) ≡ sumStart n es x y
+        by (inl (k, m)) = omega (arith, ap (λ (t : ℕ). c % 2 * t) m, start-closed k)
+        by (inr (k, m)) = omega (arith, ap (λ (t : ℕ). c % 2 * t) m, start-open i j k)
 
   -- ---- the last cell
   pub end-left : {x top : ℕ} (y : ℕ) → top ≡ topCell n → x ≡ top → top ≡ sumEnd n es x y
@@ -154,11 +222,11 @@ module _ (n es : ℕ) (wide : 3 ≤ n) where
     under : {z : ℕ} → z < topCell n → z < 2 * count n
     under h = omega (arith, top-cell n wide)
 
-    pub end-closed : x % 2 + y % 2 ≡ 2 → c ≡ sumEnd n es x y
+    end-closed : x % 2 + y % 2 ≡ 2 → c ≡ sumEnd n es x y
     unfolding both
     end-closed h = rw (read-end-odd (count n) x (under u) (omega arith), read-end-odd (count n) y (under v) (omega arith)) there
 
-    pub end-open : (x % 2 + y % 2 ≡ 2 → ⊥) → 2 * (c / 2) ≡ sumEnd n es x y
+    end-open : (x % 2 + y % 2 ≡ 2 → ⊥) → 2 * (c / 2) ≡ sumEnd n es x y
     unfolding both
     end-open h = by (parity x) (parity y)
       where
@@ -167,3 +235,10 @@ module _ (n es : ℕ) (wide : 3 ≤ n) where
         by (inl s) (inr t) = rw (read-end-even (count n) x (under u) s, read-end-odd (count n) y (under v) t, there) refl
         by (inr s) (inl t) = rw (read-end-odd (count n) x (under u) s, read-end-even (count n) y (under v) t, there) refl
         by (inr s) (inr t) = absurd (h (omega arith))
+
+    pub end-found : c - c % 2 * (1 - x % 2 * (y % 2)) ≡ sumEnd n es x y
+    end-found = by (mark-by x y)
+      where
+        by : ((x % 2 + y % 2 ≡ 2) × (gapMark x y ≡ 0)) ⊎ ((x % 2 + y % 2 ≡ 2 → ⊥) × (gapMark x y ≡ 1)) → c - c % 2 * (1 - x % 2 * (y % 2)) ≡ sumEnd n es x y
+        by (inl (k, m)) = omega (arith, ap (λ (t : ℕ). c % 2 * t) m, end-closed k)
+        by (inr (k, m)) = omega (arith, ap (λ (t : ℕ). c % 2 * t) m, end-open k)

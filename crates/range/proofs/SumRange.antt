@@ -1,8 +1,12 @@
 -- The answer of a sum is the word of the outermost cells of all sums: a range with a cell is its own extent, whose bounds stand at its first and its
--- last cell, and the extent of all sums has the sums of these bounds. The difference is the sum with the negatives.
-use mathlib.Core.Path.{_≡_, refl, sym, ap, ap₂, _∙_, subst}
+-- last cell, and the extent of all sums has the sums of these bounds.
+use mathlib.Core.Path.{_≡_, refl, sym, ap, ap₂, _∙_}
+use mathlib.Core.Bool.{Bool, true, false, _||_}
 use Prim.Native.Nat.{ℕ, _+_, _-_, _*_, _/_, _≤_, _<_}
 use native.Mathlib.Omega.{arith}
+use native.Mathlib.Decide.{decLt}
+use lib.Dec.{ltb}
+use borrow.Author.Tests.{lt-ltb, le-ltb}
 use Rattle.exact.specs.Fraction.{Fraction, _+ᶠ_}
 use Rattle.bound.specs.Bound.{Bound, none, closed-at, open-at, map-bound}
 use Rattle.bound.specs.Extent.{Extent, empty, span, normal}
@@ -17,21 +21,28 @@ use Rattle.posit.specs.Value.{value}
 use Rattle.posit.proofs.Patterns.{some-bit}
 use Rattle.posit.proofs.Mirror.{power-wider}
 use Rattle.range.specs.declared.inner.span.Span.{Span}
-use Rattle.range.specs.Word.{tiles, startOf, endOf, startTile, endTile, wordOf}
+use Rattle.range.specs.Word.{tiles, startOf, endOf, startTile, endTile, emptyWord}
 use Rattle.range.specs.Member.{Real}
 use Rattle.range.specs.Numbered.{count, numberOf}
-use Rattle.range.specs.Spans.{topCell, startCell, endCell, cellsOf, Cells, wordAt}
+use Rattle.range.specs.Spans.{startCell, endCell, noCells, cellsOf, Cells, wordAt}
 use Rattle.range.specs.Computed.{extentOf, exactExtent, lowCell, highCell, wordOfExtent, answerOf}
-use Rattle.range.specs.Cells.{startAt, endAt, sumStart, sumEnd}
+use Rattle.range.specs.Cells.{startAt, endAt, sumStart, sumEnd, sumCells}
 use Rattle.range.proofs.Grid.{posits, value-of-number, number-fits}
 use Rattle.range.proofs.Places.{FiniteEnd}
-use Rattle.range.proofs.RealWords.{RealCase, has-cells, has-none, real-case, start-placed, end-placed, high-there, cells-there}
+use Rattle.range.proofs.RealWords.{RealCase, has-cells, has-none, real-case, start-placed, end-placed, high-there}
 use Rattle.range.proofs.Members.{member-cells}
 use Rattle.range.proofs.Comparisons.{of-cells}
 use Rattle.range.proofs.Tiles.{half-large}
 use Rattle.range.proofs.WordAt.{word-at-none}
 use Rattle.range.proofs.Computed.{member-within}
 use Rattle.range.proofs.SumCells.{read-odd, read-even, read-top, read-end-odd, read-end-even, start-bounded, end-bounded}
+
+lt-not : {x y : ℕ} → x ≤ y → ¬ (y < x)
+lt-not h k = omega arith
+
+or-true : (b : Bool) → (b || true) ≡ true
+or-true true = refl
+or-true false = refl
 
 combine-none : {A B C : Type 0} (f : A → B → C) (u : Extent A) → combine f u empty ≡ empty
 unfolding combine
@@ -90,11 +101,40 @@ module _ (n es : ℕ) (wide : 3 ≤ n) where
         empty-iff-no-member fractions (normal-spans fractions (extentOf n es a)) .1
         (λ x k. let h = member-cells n es wide r x .0 (member-within n es a x .1 k) in absurd (omega (arith, h)))
 
-    pub cells-fit : {x : Span} → x ≡ cellsOf n a → ¬ (x .hi < x .lo) → (x .lo ≤ topCell n) × (x .hi ≤ topCell n)
-    cells-fit {x} e l = let h : Cells n x = subst (Cells n) (sym e) (cells-there n wide r) in (omega (arith, h), omega (arith, h))
+  -- ---- the cells of all sums, by what the operands have
+  module _ (x y : Span) where
+    left-none : x .hi < x .lo → sumCells n es x y ≡ noCells n
+    left-none l = rw (lt-ltb (x .hi) (x .lo) l)
+
+    right-none : y .hi < y .lo → sumCells n es x y ≡ noCells n
+    right-none l = rw (lt-ltb (y .hi) (y .lo) l, or-true (ltb (x .hi) (x .lo)))
+
+    both-some : x .lo ≤ x .hi → y .lo ≤ y .hi → sumCells n es x y ≡ record { lo = sumStart n es (x .lo) (y .lo); hi = sumEnd n es (x .hi) (y .hi) }
+    both-some k l = rw (le-ltb (x .hi) (x .lo) k, le-ltb (y .hi) (y .lo) l)
+
+    none-word : sumCells n es x y ≡ noCells n → wordAt n (sumCells n es x y) ≡ emptyWord n
+    none-word e = ap (wordAt n) e ∙ word-at-none n (noCells n) (omega arith)
+
+    pub no-left : x .hi < x .lo → {w : ℕ} → w ≡ emptyWord n → w ≡ wordAt n (sumCells n es x y)
+    no-left l h = h ∙ sym (none-word (left-none l))
+
+    pub no-right : y .hi < y .lo → {w : ℕ} → w ≡ emptyWord n → w ≡ wordAt n (sumCells n es x y)
+    no-right l h = h ∙ sym (none-word (right-none l))
+
+    module _ {lo hi : ℕ} (s : lo ≡ sumStart n es (x .lo) (y .lo)) (e : hi ≡ sumEnd n es (x .hi) (y .hi)) where
+      pub sums-there : Cells n (record { lo = lo; hi = hi })
+      sums-there =
+          omega (
+            arith,
+            start-bounded n es wide (both _+ᶠ_ (startAt n es (x .lo)) (startAt n es (y .lo))),
+            end-bounded n es wide (both _+ᶠ_ (endAt n es (x .hi)) (endAt n es (y .hi))),
+          )
+
+      pub sum-word : x .lo ≤ x .hi → y .lo ≤ y .hi → {w : ℕ} → w ≡ wordAt n (record { lo = lo; hi = hi }) → w ≡ wordAt n (sumCells n es x y)
+      sum-word k l h = h ∙ ap (wordAt n) (sym (both-some k l ∙ (λ i. record { lo = sym s i; hi = sym e i })))
 
   -- ---- the answer
-  module _ {a b : ℕ} (r : Real n a) (q : Real n b) {x y : Span} (i : x ≡ cellsOf n a) (j : y ≡ cellsOf n b) where
+  module _ {a b : ℕ} (r : Real n a) (q : Real n b) where
     abbrev sums : Extent Fraction
     sums = combine _+ᶠ_ (normal fractions (extentOf n es a)) (normal fractions (extentOf n es b))
 
@@ -102,38 +142,38 @@ module _ (n es : ℕ) (wide : 3 ≤ n) where
     unfolding answerOf exactExtent sum
     answer-sum = refl
 
-    none-word : sums ≡ empty → {w : ℕ} → w ≡ wordOf n 1 1 → w ≡ answerOf n es 0 a b
-    none-word e h =
-        h ∙ sym (word-at-none n (record { lo = lowCell n es empty; hi = highCell n es empty }) (omega arith)) ∙ ap (wordOfExtent n es) (sym e) ∙ sym answer-sum
+    none-answer : sums ≡ empty → answerOf n es 0 a b ≡ emptyWord n
+    none-answer e =
+        answer-sum ∙ ap (wordOfExtent n es) e ∙ word-at-none n (record { lo = lowCell n es empty; hi = highCell n es empty }) (omega arith)
 
-    pub no-left : x .hi < x .lo → {w : ℕ} → w ≡ wordOf n 1 1 → w ≡ answerOf n es 0 a b
+    left-answer : cellsOf n a .hi < cellsOf n a .lo → answerOf n es 0 a b ≡ emptyWord n
     unfolding combine
-    no-left l = none-word (ap (λ (u : Extent Fraction). combine _+ᶠ_ u (normal fractions (extentOf n es b))) (no-extent r (rw i at l)))
+    left-answer l = none-answer (ap (λ (u : Extent Fraction). combine _+ᶠ_ u (normal fractions (extentOf n es b))) (no-extent r l))
 
-    pub no-right : y .hi < y .lo → {w : ℕ} → w ≡ wordOf n 1 1 → w ≡ answerOf n es 0 a b
-    no-right l =
-        none-word
-        (ap (combine _+ᶠ_ (normal fractions (extentOf n es a))) (no-extent q (rw j at l)) ∙ combine-none _+ᶠ_ (normal fractions (extentOf n es a)))
+    right-answer : cellsOf n b .hi < cellsOf n b .lo → answerOf n es 0 a b ≡ emptyWord n
+    right-answer l =
+        none-answer
+        (ap (combine _+ᶠ_ (normal fractions (extentOf n es a))) (no-extent q l) ∙ combine-none _+ᶠ_ (normal fractions (extentOf n es a)))
 
-    module _ (k : ¬ (x .hi < x .lo)) (l : ¬ (y .hi < y .lo)) {lo hi : ℕ} (s : lo ≡ sumStart n es (x .lo) (y .lo)) (e : hi ≡ sumEnd n es (x .hi) (y .hi)) where
-      pub sum-cells : Cells n (record { lo = lo; hi = hi })
-      sum-cells =
-          omega (
-            arith,
-            start-bounded n es wide (both _+ᶠ_ (startAt n es (x .lo)) (startAt n es (y .lo))),
-            end-bounded n es wide (both _+ᶠ_ (endAt n es (x .hi)) (endAt n es (y .hi))),
-          )
-
+    module _ (k : cellsOf n a .lo ≤ cellsOf n a .hi) (l : cellsOf n b .lo ≤ cellsOf n b .hi) where
       all-sums : sums ≡ span (both _+ᶠ_ (startAt n es (cellsOf n a .lo)) (startAt n es (cellsOf n b .lo))) (both _+ᶠ_ (endAt n es (cellsOf n a .hi)) (endAt n es (cellsOf n b .hi)))
       unfolding combine
-      all-sums = ap₂ (combine _+ᶠ_) (some-extent r (rw i at k)) (some-extent q (rw j at l))
+      all-sums = ap₂ (combine _+ᶠ_) (some-extent r (lt-not k)) (some-extent q (lt-not l))
 
-      pub sum-word : {w : ℕ} → w ≡ wordAt n (record { lo = lo; hi = hi }) → w ≡ answerOf n es 0 a b
-      sum-word h = h ∙ (rw (s, e, i, j) (sym (ap (wordOfExtent n es) all-sums))) ∙ sym answer-sum
+      some-answer : answerOf n es 0 a b ≡ wordAt n (sumCells n es (cellsOf n a) (cellsOf n b))
+      some-answer = answer-sum ∙ ap (wordOfExtent n es) all-sums ∙ ap (wordAt n) (sym (both-some (cellsOf n a) (cellsOf n b) k l))
+
+    pub sum-answer : answerOf n es 0 a b ≡ wordAt n (sumCells n es (cellsOf n a) (cellsOf n b))
+    sum-answer = by (decLt (cellsOf n a .hi) (cellsOf n a .lo)) (decLt (cellsOf n b .hi) (cellsOf n b .lo))
+      where
+        by : Dec (cellsOf n a .hi < cellsOf n a .lo) → Dec (cellsOf n b .hi < cellsOf n b .lo) → answerOf n es 0 a b ≡ wordAt n (sumCells n es (cellsOf n a) (cellsOf n b))
+        by (yes k) l = no-left (cellsOf n a) (cellsOf n b) k (left-answer k)
+        by (no k) (yes l) = no-right (cellsOf n a) (cellsOf n b) l (right-answer l)
+        by (no k) (no l) = some-answer (omega arith) (omega arith)
+
+    pub sum-found : {x y : Span} → x ≡ cellsOf n a → y ≡ cellsOf n b → {w : ℕ} → w ≡ wordAt n (sumCells n es x y) → w ≡ answerOf n es 0 a b
+    sum-found i j h = h ∙ ap₂ (λ (u v : Span). wordAt n (sumCells n es u v)) i j ∙ sym sum-answer
 
 -- ---- the machine's facts
-pub lt-not : {x y : ℕ} → x ≤ y → ¬ (y < x)
-lt-not h k = omega arith
-
 pub one-fits : {n es : ℕ} → Format n es → 1 < tiles n
 one-fits {n} f = omega (arith, power-wider n, half-large (f .wide-enough))

@@ -6,7 +6,8 @@ use mathlib.Core.List.{List, [], _∷_}
 use Prim.Native.Nat.{ℕ, suc, _≤_, _<_}
 use native.Mathlib.Nat.{suc-ne-zero}
 use native.Mathlib.Decide.{ℕ-discrete}
-use borrow.Author.Tests.{le-leb, lt-leb, leb-false, not-false}
+use lib.Dec.{leb}
+use borrow.Author.Tests.{le-leb, lt-leb, leb-true, leb-false, not-false}
 use Rattle.posit.specs.Format.{Format, isFormat}
 use Rattle.posit.specs.Refusal.{Verdict, Test, Answers, done, firstHit, left, right, formatTest}
 use Rattle.posit.proofs.Verdicts.{hits, passes, none-hits, answers-done, format-of}
@@ -56,11 +57,28 @@ module _ (n place a : ℕ) where
   pub word-done : a < words n → isInfinite (kind n a) ≡ false → verdictOfWord n place a ≡ done
   word-done h e = word-fits h ∙ passes (infinityTest n place a) _ e ∙ none-hits
 
-  word-real : verdictOfWord n place a .number ≡ 0 → Real n a
+  pub word-real : verdictOfWord n place a .number ≡ 0 → Real n a
   word-real z =
       let p = passed (wordTest n place a) (infinityTest n place a ∷ []) refl z in
       let q = passed (infinityTest n place a) [] refl (p .1) in
       record { fits = leb-false (words n) a (p .0); no-infinity = q .0 }
+
+-- a refused word is refused at every place by the same number
+module _ (n a : ℕ) (d : verdictOfWord n left a .number ≢ 0) where
+  pub word-placed : (place : ℕ) → verdictOfWord n place a ≡ record { number = verdictOfWord n left a .number; place = place }
+  word-placed place = by-size (leb (words n) a) refl
+    where
+      numbered : {k : ℕ} → verdictOfWord n place a ≡ record { number = k; place = place } → verdictOfWord n left a ≡ record { number = k; place = left }
+          → verdictOfWord n place a ≡ record { number = verdictOfWord n left a .number; place = place }
+      numbered e f = e ∙ (λ i. record { number = sym (ap (λ (v : Verdict). v .number) f) i; place = place })
+
+      by-kind : a < words n → (b : Bool) → isInfinite (kind n a) ≡ b → verdictOfWord n place a ≡ record { number = verdictOfWord n left a .number; place = place }
+      by-kind h true e = numbered (word-infinite n place a h e) (word-infinite n left a h e)
+      by-kind h false e = absurd (d (ap (λ (v : Verdict). v .number) (word-done n left a h e)))
+
+      by-size : (b : Bool) → leb (words n) a ≡ b → verdictOfWord n place a ≡ record { number = verdictOfWord n left a .number; place = place }
+      by-size true e = numbered (word-too-large n place a (leb-true (words n) a e)) (word-too-large n left a (leb-true (words n) a e))
+      by-size false e = by-kind (leb-false (words n) a e) (isInfinite (kind n a)) refl
 
 -- ---- one range
 module _ (n es a : ℕ) where
@@ -83,6 +101,9 @@ module _ (n es a : ℕ) where
 
   pub range-real : verdictOfRange n es a .number ≡ 0 → Real n a
   range-real z = word-real n left a (range-passed z .1)
+
+  pub range-passes : isFormat n es ≡ true → verdictOfWord n left a .number ≡ 0 → verdictOfRange n es a .number ≡ 0
+  range-passes e z = ap (λ (v : Verdict). v .number) (range-inside e) ∙ z
 
   pub range-done : verdictOfRange n es a .number ≡ 0 → verdictOfRange n es a ≡ done
   range-done z =

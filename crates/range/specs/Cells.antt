@@ -1,16 +1,21 @@
 -- What the inner functions that find the cells of exact numbers say.
 use mathlib.Core.Path.{_≡_}
-use mathlib.Core.Bool.{Bool, true, false}
+use mathlib.Core.Bool.{Bool, true, false, _||_}
 use Prim.Native.Nat.{ℕ, zero, suc, _+_, _-_, _%_, _^_}
-use Rattle.exact.specs.Fraction.{Fraction, _+ᶠ_}
+use lib.Dec.{ltb}
+use Rattle.exact.specs.Fraction.{Fraction, _≈_, _+ᶠ_}
 use Rattle.bound.specs.Bound.{Bound, map-bound}
 use Rattle.bound.specs.Operation.{both}
 use Rattle.bound.specs.Cell.{start-of, end-of}
 use Rattle.bound.specs.End.{read-start, read-end}
+use Rattle.posit.specs.Value.{value}
 use Rattle.posit.specs.Magnitudes.{Within, withSignᶠ}
+use Rattle.posit.specs.Normals.{IsNormal, normalValue}
 use Rattle.posit.specs.declared.inner.magnitude.Magnitude.{Magnitude}
+use Rattle.range.specs.declared.inner.signed.Signed.{Signed}
 use Rattle.range.specs.Numbered.{count, valueAt}
-use Rattle.range.specs.Spans.{topCell}
+use Rattle.range.specs.declared.inner.span.Span.{Span}
+use Rattle.range.specs.Spans.{topCell, noCells}
 use Rattle.range.specs.Computed.{cellOf}
 
 -- whatever magnitude x knows, with the sign r is its cell
@@ -31,6 +36,11 @@ abbrev pub cellWithSign : ℕ → Bool → ℕ → ℕ
 cellWithSign n true c = topCell n - c
 cellWithSign n false c = c
 
+-- a finite posit other than 0 as a sign and the normal form of its size
+pub record SignedOf (n es p : ℕ) (r : Signed) : Type 0 where
+  pub normal : IsNormal (r .size)
+  pub says : withSignᶠ (r .negative) (normalValue es (r .size)) ≈ value n es p
+
 -- ---- sums: the bounds that stand at a start and at an end cell, and the outermost cells of all sums between them
 abbrev pub startAt : ℕ → ℕ → ℕ → Bound Fraction
 startAt n es c = map-bound (valueAt n es) (read-start c)
@@ -43,3 +53,13 @@ sumStart n es x y = start-of (map-bound (cellOf n es) (both _+ᶠ_ (startAt n es
 
 abbrev pub sumEnd : ℕ → ℕ → ℕ → ℕ → ℕ
 sumEnd n es x y = end-of (count n) (map-bound (cellOf n es) (both _+ᶠ_ (endAt n es x) (endAt n es y)))
+
+-- the outermost cells of all sums of a member of each operand; none where one has no member
+abbrev pickSpan : Bool → Span → Span → Span
+pickSpan true a b = a
+pickSpan false a b = b
+
+abbrev pub sumCells : ℕ → ℕ → Span → Span → Span
+sumCells n es x y =
+    pickSpan (ltb (x .hi) (x .lo) || ltb (y .hi) (y .lo)) (noCells n)
+    (record { lo = sumStart n es (x .lo) (y .lo); hi = sumEnd n es (x .hi) (y .hi) })

@@ -5,6 +5,7 @@ pub mod Refusal
 pub mod Calls
 pub mod Numbered
 pub mod Spans
+pub mod Taking
 pub mod Computed
 pub mod Cells
 pub mod Signs

@@ -4,12 +4,13 @@ ghost use Rattle.posit.specs.Operation.{plus, minus, times, over};
 ghost use Rattle.range.specs.Calls.{OperationOf, doneWord, refusedWord};
 use super::answer::WordAnswer;
 use super::answer::ZERO_DIVISOR;
-use super::inner::add::add_ranges;
-use super::inner::add::subtract_ranges;
-use super::inner::divide::divide_ranges;
-use super::inner::judge::judge_ranges;
-use super::inner::multiply::multiply_ranges;
-use super::inner::zero::has_zero;
+use super::inner::add::add_cells;
+use super::inner::add::subtract_word;
+use super::inner::divide::divide_cells;
+use super::inner::multiply::multiply_cells;
+use super::inner::operands::Operands;
+use super::inner::operands::take_words;
+use super::inner::signs::has_zero;
 use posit::answer::DONE;
 use posit::answer::LEFT;
 use posit::answer::NO_OPERATION;
@@ -41,51 +42,45 @@ fn done(word: u64) -> WordAnswer
 pub fn add(n: u32, es: u32, a: u64, b: u64) -> WordAnswer
     ensures { λ r. ⌜ OperationOf n es plus a b r ⌝ }
 {
-    let verdict = judge_ranges(n, es, a, b);
-    let number = verdict.number;
-    if number != DONE {
-        return refused(number, verdict.place);
+    match take_words(n, es, a, b) {
+        Operands::Refused { number, place } => refused(number, place),
+        Operands::Cells { left, right } => done(add_cells(n, es, left, right)),
     }
-    done(add_ranges(n, es, a, b))
 }
 
 // The differences.
 pub fn subtract(n: u32, es: u32, a: u64, b: u64) -> WordAnswer
     ensures { λ r. ⌜ OperationOf n es minus a b r ⌝ }
 {
-    let verdict = judge_ranges(n, es, a, b);
-    let number = verdict.number;
-    if number != DONE {
-        return refused(number, verdict.place);
+    match take_words(n, es, a, b) {
+        Operands::Refused { number, place } => refused(number, place),
+        Operands::Cells { left, right } => done(subtract_word(n, es, left, b)),
     }
-    done(subtract_ranges(n, es, a, b))
 }
 
 // The products.
 pub fn multiply(n: u32, es: u32, a: u64, b: u64) -> WordAnswer
     ensures { λ r. ⌜ OperationOf n es times a b r ⌝ }
 {
-    let verdict = judge_ranges(n, es, a, b);
-    let number = verdict.number;
-    if number != DONE {
-        return refused(number, verdict.place);
+    match take_words(n, es, a, b) {
+        Operands::Refused { number, place } => refused(number, place),
+        Operands::Cells { left, right } => done(multiply_cells(n, es, left, right)),
     }
-    done(multiply_ranges(n, es, a, b))
 }
 
 // The quotients; a divisor with 0 as a member is refused.
 pub fn divide(n: u32, es: u32, a: u64, b: u64) -> WordAnswer
     ensures { λ r. ⌜ OperationOf n es over a b r ⌝ }
 {
-    let verdict = judge_ranges(n, es, a, b);
-    let number = verdict.number;
-    if number != DONE {
-        return refused(number, verdict.place);
+    match take_words(n, es, a, b) {
+        Operands::Refused { number, place } => refused(number, place),
+        Operands::Cells { left, right } => {
+            if has_zero(n, right) {
+                return refused(ZERO_DIVISOR, RIGHT);
+            }
+            done(divide_cells(n, es, left, right))
+        }
     }
-    if has_zero(n, es, b) {
-        return refused(ZERO_DIVISOR, RIGHT);
-    }
-    done(divide_ranges(n, es, a, b))
 }
 
 // The operation of a number: 0 add, 1 subtract, 2 multiply, 3 divide.

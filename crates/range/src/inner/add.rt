@@ -1,31 +1,27 @@
 // The sum and the difference of two real ranges.
 ghost use mathlib.Core.Path.{_≡_};
-ghost use mathlib.Core.Bool.{Bool};
-ghost use Prim.Native.Nat.{_+_, _*_, _≤_, _<_, _^_};
+ghost use Prim.Native.Nat.{_+_, _*_, _≤_};
 ghost use Rattle.exact.specs.Fraction.{_+ᶠ_};
 ghost use Rattle.posit.specs.Format.{Format, Finite};
 ghost use Rattle.posit.specs.Value.{value};
-ghost use Rattle.posit.specs.Decoding.{finiteValue};
-ghost use Rattle.posit.specs.Magnitudes.{SmallForm};
 ghost use Rattle.range.specs.Numbered.{numberOf};
 ghost use Rattle.range.specs.Member.{Real};
-ghost use Rattle.range.specs.Spans.{topCell};
+ghost use Rattle.range.specs.Spans.{topCell, cellsOf, mirrored, Cells, wordAt};
 ghost use Rattle.range.specs.Computed.{cellOf, answerOf};
-ghost use Rattle.range.specs.Cells.{sumStart, sumEnd};
+ghost use Rattle.range.specs.Cells.{sumStart, sumEnd, sumCells};
 use super::cell::cell_of;
 use super::cell::end_posit;
 use super::cell::start_posit;
+use super::signed::signed_form;
 use super::span::Span;
 use super::span::joined;
 use super::span::top_cell;
 use super::span::word_of;
 use super::turn::turned;
 use super::word::cells_of;
-use posit::decoded::Decoded;
+use posit::inner::normal_sum::normal_sum;
 use posit::inner::power::power32;
 use posit::inner::sum::Sum;
-use posit::inner::sum::exact_sum;
-use posit::inner::unpack::unpack;
 
 // The cell of a finite posit alone.
 fn posit_cell(n: u32, p: u32) -> u32
@@ -35,12 +31,22 @@ fn posit_cell(n: u32, p: u32) -> u32
     2 * ((p + power32(n - 1) - 1) % power32(n)) + 1
 }
 
-// The cell of the sum of two numbers other than 0, g · 2^s and h · 2^t in size.
-fn finite_cell(n: u32, es: u32, less: bool, s: i32, g: u32, under: bool, t: i32, h: u32) -> u32
-    requires { ⌜ (Format n es) × (SmallForm s g) × (SmallForm t h) ⌝ }
-    ensures { λ r. ⌜ r ≡ cellOf n es (finiteValue less s g +ᶠ finiteValue under t h) ⌝ }
+// The cell of the exact sum of two finite posits.
+fn sum_cell(n: u32, es: u32, p: u32, q: u32) -> u32
+    requires { ⌜ (Format n es) × (Finite n p) × (Finite n q) ⌝ }
+    ensures { λ r. ⌜ r ≡ cellOf n es (value n es p +ᶠ value n es q) ⌝ }
 {
-    match exact_sum(less, s, g, under, t, h) {
+    if p == 0 {
+        return posit_cell(n, q);
+    }
+    if q == 0 {
+        return posit_cell(n, p);
+    }
+    let x = signed_form(n, es, p);
+    let y = signed_form(n, es, q);
+    let left = x.size;
+    let right = y.size;
+    match normal_sum(es, x.negative, left, y.negative, right) {
         Sum::Nothing => power32(n) - 1,
         Sum::Something {
             negative,
@@ -49,31 +55,7 @@ fn finite_cell(n: u32, es: u32, less: bool, s: i32, g: u32, under: bool, t: i32,
     }
 }
 
-// The cell of the exact sum of two finite posits.
-fn sum_cell(n: u32, es: u32, p: u32, q: u32) -> u32
-    requires { ⌜ (Format n es) × (Finite n p) × (Finite n q) ⌝ }
-    ensures { λ r. ⌜ r ≡ cellOf n es (value n es p +ᶠ value n es q) ⌝ }
-{
-    match unpack(n, es, p) {
-        Decoded::Nar => 0,
-        Decoded::Zero => posit_cell(n, q),
-        Decoded::Finite {
-            negative: less,
-            scale: s,
-            fraction: g,
-        } => match unpack(n, es, q) {
-            Decoded::Nar => 0,
-            Decoded::Zero => posit_cell(n, p),
-            Decoded::Finite {
-                negative: under,
-                scale: t,
-                fraction: h,
-            } => finite_cell(n, es, less, s, g, under, t, h),
-        },
-    }
-}
-
-// The first cell of all sums of a number from the start cell x up and one from y up: closed where both are.
+// The first cell of all sums of a number from the start cell x up and one from y up: a posit where both are, else a gap.
 fn sum_start(n: u32, es: u32, x: u32, y: u32) -> u32
     requires { ⌜ (Format n es) × (x ≤ topCell n) × (y ≤ topCell n) ⌝ }
     ensures { λ r. ⌜ r ≡ sumStart n es x y ⌝ }
@@ -85,10 +67,8 @@ fn sum_start(n: u32, es: u32, x: u32, y: u32) -> u32
         return 0;
     }
     let cell = sum_cell(n, es, start_posit(n, x), start_posit(n, y));
-    if x % 2 + y % 2 == 2 {
-        return cell;
-    }
-    2 * ((cell + 1) / 2)
+    let gap = 1 - x % 2 * (y % 2);
+    cell + cell % 2 * gap
 }
 
 // The last cell of all sums of a number up to the end cell x and one up to y.
@@ -104,18 +84,15 @@ fn sum_end(n: u32, es: u32, x: u32, y: u32) -> u32
         return top;
     }
     let cell = sum_cell(n, es, end_posit(n, x), end_posit(n, y));
-    if x % 2 + y % 2 == 2 {
-        return cell;
-    }
-    2 * (cell / 2)
+    let gap = 1 - x % 2 * (y % 2);
+    cell - cell % 2 * gap
 }
 
-pub fn add_ranges(n: u32, es: u32, a: u64, b: u64) -> u64
-    requires { ⌜ (Format n es) × (Real n a) × (Real n b) ⌝ }
-    ensures { λ r. ⌜ r ≡ answerOf n es 0 a b ⌝ }
+// The sum of two ranges by their cells.
+pub fn add_cells(n: u32, es: u32, x: Span, y: Span) -> u64
+    requires { ⌜ (Format n es) × (Cells n x) × (Cells n y) ⌝ }
+    ensures { λ r. ⌜ r ≡ wordAt n (sumCells n es x y) ⌝ }
 {
-    let x = cells_of(n, a);
-    let y = cells_of(n, b);
     if x.hi < x.lo {
         return joined(n, 1, 1);
     }
@@ -130,9 +107,23 @@ pub fn add_ranges(n: u32, es: u32, a: u64, b: u64) -> u64
 }
 
 // The difference is the sum with the negated range.
+pub fn subtract_word(n: u32, es: u32, x: Span, b: u64) -> u64
+    requires { ⌜ (Format n es) × (Cells n x) × (Real n b) ⌝ }
+    ensures { λ r. ⌜ r ≡ wordAt n (sumCells n es x (mirrored n (cellsOf n b))) ⌝ }
+{
+    add_cells(n, es, x, cells_of(n, turned(n, es, b)))
+}
+
+pub fn add_ranges(n: u32, es: u32, a: u64, b: u64) -> u64
+    requires { ⌜ (Format n es) × (Real n a) × (Real n b) ⌝ }
+    ensures { λ r. ⌜ r ≡ answerOf n es 0 a b ⌝ }
+{
+    add_cells(n, es, cells_of(n, a), cells_of(n, b))
+}
+
 pub fn subtract_ranges(n: u32, es: u32, a: u64, b: u64) -> u64
     requires { ⌜ (Format n es) × (Real n a) × (Real n b) ⌝ }
     ensures { λ r. ⌜ r ≡ answerOf n es 1 a b ⌝ }
 {
-    add_ranges(n, es, a, turned(n, es, b))
+    subtract_word(n, es, cells_of(n, a), b)
 }

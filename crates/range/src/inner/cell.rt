@@ -9,6 +9,7 @@ ghost use Rattle.range.specs.Numbered.{patternAt};
 ghost use Rattle.range.specs.Spans.{topCell};
 ghost use Rattle.range.specs.Cells.{CellEach, cellFrom, cellWithSign};
 use super::span::top_cell;
+use posit::inner::choose::chosen;
 use posit::inner::locate::locate;
 use posit::inner::magnitude::Magnitude;
 use posit::inner::power::power32;
@@ -19,14 +20,7 @@ fn cell_from(n: u32, pattern: u32, exact: bool) -> u32
     requires { ⌜ (n ≤ 16) × (pattern < 2 ^ n) ⌝ }
     ensures { λ r. ⌜ r ≡ cellFrom n pattern exact ⌝ }
 {
-    let cell = power32(n) - 1 + pattern;
-    if pattern % 2 == 1 {
-        return cell;
-    }
-    if exact {
-        return cell;
-    }
-    cell + 1
+    power32(n) - 1 + pattern + (1 - pattern % 2) * (1 - exact as u32)
 }
 
 // The same cell, or that of the negative.
@@ -34,10 +28,7 @@ fn with_sign(n: u32, negative: bool, cell: u32) -> u32
     requires { ⌜ (n ≤ 16) × (cell ≤ topCell n) ⌝ }
     ensures { λ r. ⌜ r ≡ cellWithSign n negative cell ⌝ }
 {
-    if negative {
-        return top_cell(n) - cell;
-    }
-    cell
+    chosen(negative as u32, cell, top_cell(n) - cell)
 }
 
 // The cell of a magnitude with a sign.
@@ -47,10 +38,7 @@ pub fn cell_of(n: u32, es: u32, negative: bool, x: Magnitude) -> u32
 {
     let at = locate(n, es, x.g, x.s, x.a);
     let lost = x.lost;
-    if lost {
-        return with_sign(n, negative, cell_from(n, at.pattern, false));
-    }
-    with_sign(n, negative, cell_from(n, at.pattern, at.exact))
+    with_sign(n, negative, cell_from(n, at.pattern, at.exact & !lost))
 }
 
 // The posit at or below a start cell.

@@ -2,15 +2,13 @@
 ghost use Prim.Native.Nat.{_≤_};
 ghost use Rattle.range.specs.Calls.{SaysVerdict, verdictOfWord};
 ghost use Rattle.range.specs.Refusal.{verdictOfRange, verdictOfRanges};
-use super::super::answer::HOLDS_INFINITY;
-use super::word::holds_infinity;
+use super::operands::Operands;
+use super::operands::take_words;
+use super::word::take_word;
 use posit::answer::DONE;
 use posit::answer::LEFT;
 use posit::answer::OUTSIDE_LIMITS;
-use posit::answer::RIGHT;
-use posit::answer::TOO_LARGE;
 use posit::inner::format::is_format;
-use posit::inner::power::power;
 
 pub struct Judged {
     pub number: u32,
@@ -22,15 +20,10 @@ pub fn judge_word(n: u32, place: u32, a: u64) -> Judged
     requires { ⌜ (3 ≤ n) × (n ≤ 16) ⌝ }
     ensures { λ r. ⌜ SaysVerdict (verdictOfWord n place a) r ⌝ }
 {
-    if power(2 * n + 2) <= a {
+    let number = take_word(n, a).number;
+    if number != DONE {
         return Judged {
-            number: TOO_LARGE,
-            place: place,
-        };
-    }
-    if holds_infinity(n, a) {
-        return Judged {
-            number: HOLDS_INFINITY,
+            number: number,
             place: place,
         };
     }
@@ -57,10 +50,14 @@ pub fn judge_range(n: u32, es: u32, a: u64) -> Judged
 pub fn judge_ranges(n: u32, es: u32, a: u64, b: u64) -> Judged
     ensures { λ r. ⌜ SaysVerdict (verdictOfRanges n es a b) r ⌝ }
 {
-    let first = judge_range(n, es, a);
-    let number = first.number;
-    if number != DONE {
-        return first;
+    match take_words(n, es, a, b) {
+        Operands::Refused { number, place } => Judged {
+            number: number,
+            place: place,
+        },
+        Operands::Cells { left, right } => Judged {
+            number: DONE,
+            place: LEFT,
+        },
     }
-    judge_word(n, RIGHT, b)
 }

@@ -1,8 +1,8 @@
 // A range as an interval of cells, and back.
 ghost use mathlib.Core.Path.{_≡_};
 ghost use Prim.Native.Nat.{_<_, _≤_};
-ghost use Rattle.range.specs.Word.{tiles, closedNar, wordOf};
-ghost use Rattle.range.specs.Spans.{topCell, startCell, endCell, noCells, between, mirrored, startTileAt, endTileAt, Cells, wordAt};
+ghost use Rattle.range.specs.Word.{tiles, wordOf};
+ghost use Rattle.range.specs.Spans.{topCell, noCells, mirrored, startTileAt, endTileAt, Cells, wordAt};
 use posit::inner::power::power;
 use posit::inner::power::power32;
 
@@ -30,40 +30,6 @@ pub fn no_cells(n: u32) -> Span
     }
 }
 
-// The first cell after a start.
-fn start_cell(n: u32, tile: u32) -> u32
-    requires { ⌜ (3 ≤ n) × (n ≤ 16) × (tile < tiles n) × (tile ≡ closedNar n → ⊥) ⌝ }
-    ensures { λ r. ⌜ r ≡ startCell n tile ⌝ }
-{
-    let half = power32(n);
-    (tile + half) % (2 * half) - 1
-}
-
-// The last cell before an end.
-fn end_cell(n: u32, tile: u32) -> u32
-    requires { ⌜ (3 ≤ n) × (n ≤ 16) × (tile < tiles n) × (tile ≡ closedNar n → ⊥) ⌝ }
-    ensures { λ r. ⌜ r ≡ endCell n tile ⌝ }
-{
-    let half = power32(n);
-    if tile == half + 1 {
-        return top_cell(n);
-    }
-    (tile + half) % (2 * half) - 1 - 2 * (tile % 2)
-}
-
-// The cells between a start and an end tile.
-pub fn cells_between(n: u32, start: u32, end: u32) -> Span
-    requires { ⌜ (3 ≤ n) × (n ≤ 16) × (start < tiles n) × (end < tiles n) × (start ≡ closedNar n → ⊥) × (end ≡ closedNar n → ⊥) ⌝ }
-    ensures { λ r. ⌜ r ≡ between n start end ⌝ }
-{
-    let lo = start_cell(n, start);
-    let hi = end_cell(n, end);
-    if hi < lo {
-        return no_cells(n);
-    }
-    Span { lo: lo, hi: hi }
-}
-
 // The start tile whose first cell is this one.
 fn start_tile_at(n: u32, cell: u32) -> u32
     requires { ⌜ (n ≤ 16) × (cell ≤ topCell n) ⌝ }
@@ -79,11 +45,7 @@ fn end_tile_at(n: u32, cell: u32) -> u32
     ensures { λ r. ⌜ r ≡ endTileAt n cell ⌝ }
 {
     let half = power32(n);
-    let all = 2 * half;
-    if cell == all - 2 {
-        return half + 1;
-    }
-    (cell + 3 - 2 * (cell % 2) + half) % all
+    (cell + 3 - 2 * (cell % 2) + half) % (2 * half)
 }
 
 // The word of a start and an end tile.

@@ -4,18 +4,13 @@ ghost use lib.IntN.{pos};
 ghost use Rattle.exact.specs.Fraction.{whole};
 ghost use Rattle.posit.specs.Format.{Format};
 ghost use Rattle.range.specs.Member.{Real, isMember};
+use super::signs;
 use super::word::cells_of;
-use posit::inner::power::power32;
 
 // The cell of 0 is one of the range's cells.
 pub fn has_zero(n: u32, es: u32, b: u64) -> bool
     requires { ⌜ (Format n es) × (Real n b) ⌝ }
     ensures { λ r. ⌜ r ≡ isMember n es b (whole (pos 0)) ⌝ }
 {
-    let cells = cells_of(n, b);
-    let middle = power32(n) - 1;
-    if cells.lo <= middle {
-        return middle <= cells.hi;
-    }
-    false
+    signs::has_zero(n, cells_of(n, b))
 }

@@ -3,42 +3,59 @@ use mathlib.Core.Path.{sym, _∙_}
 use native.Mathlib.Omega.{arith}
 use borrow.Author.Needs.{needs}
 use Rattle.posit.specs.Operation.{over}
-use Rattle.range.proofs.Operations.{call-asks, call-refused, call-done, call-zero-divisor}
+use Rattle.range.proofs.Operations.{call-asks, call-real-cells, call-refused, quotient-done, call-zero-divisor, zero-of-right}
 use Rattle.range.proofs.operate.divide.Statement.{statement}
 use Rattle.range.proofs.operate.divide.Tie as tie
 
-judge-ranges-requires : tie.Need-judge-ranges-requires
-judge-ranges-requires c κs = search needs
+take-words-requires : tie.Need-take-words-requires
+take-words-requires c κs = search needs
+
+enum-known-number : tie.Need-enum-known-number
+enum-known-number c = search needs
 
 refused-requires : tie.Need-refused-requires
 refused-requires c κs = search needs
 
-returns : tie.Need-returns
-returns c = call-refused (c .before .before .before .args .n) (c .before .before .before .args .es) (c .before .before .before .args .a) (c .before .before .before .args .b) (c .before .before .judge-ranges .ensures) over (omega arith) (c .before .if1 .taken) (c .refused .ensures)
+enum-known-left : tie.Need-enum-known-left
+enum-known-left c = search needs
 
 has-zero-requires : tie.Need-has-zero-requires
-has-zero-requires c κs =
-    let x = call-asks (c .before .before .args .n) (c .before .before .args .es) (c .before .before .args .a) (c .before .before .args .b) (c .before .judge-ranges .ensures) (c .if1 .left) in
-    (x .0, x .2)
+has-zero-requires c κs = call-asks _ _ _ _ (c .before .before .before .take-words .ensures) (c .before .left .given .1) .0 .not-too-wide
 
 refused-requires-2 : tie.Need-refused-requires-2
 refused-requires-2 c κs = search needs
 
-returns-2 : tie.Need-returns-2
-returns-2 c =
-    call-zero-divisor (c .before .before .before .before .before .args .n) (c .before .before .before .before .before .args .es) (c .before .before .before .before .before .args .a) (c .before .before .before .before .before .args .b) (c .before .before .before .before .judge-ranges .ensures) (c .before .before .before .if1 .left)
-    (sym (c .before .before .has-zero .ensures) ∙ c .before .if2 .taken) (c .refused2 .ensures)
+returns : tie.Need-returns
+returns c =
+    call-zero-divisor _ _ _ _ (c .before .before .before .before .before .before .take-words .ensures) (c .before .before .before .before .left .given .1)
+    (sym (zero-of-right _ _ _ _ (c .before .before .before .before .before .before .take-words .ensures) (c .before .before .before .before .left .given .1)) ∙ sym (c .before .before .has-zero .ensures) ∙ c .before .if1 .taken) (c .refused2 .ensures)
 
-divide-ranges-requires : tie.Need-divide-ranges-requires
-divide-ranges-requires c κs = call-asks (c .before .before .before .before .args .n) (c .before .before .before .before .args .es) (c .before .before .before .before .args .a) (c .before .before .before .before .args .b) (c .before .before .before .judge-ranges .ensures) (c .before .before .if1 .left)
+divide-cells-requires : tie.Need-divide-cells-requires
+divide-cells-requires c κs = call-real-cells _ _ _ _ (c .before .before .before .before .before .take-words .ensures) (c .before .before .before .left .given .1)
 
 done-requires : tie.Need-done-requires
 done-requires c κs = search needs
 
+returns-2 : tie.Need-returns-2
+returns-2 c = call-refused _ _ _ _ (c .before .before .before .before .take-words .ensures) over (omega arith) (c .before .before .number .given .1) (c .refused .ensures)
+
 returns-3 : tie.Need-returns-3
 returns-3 c =
-    call-done (c .before .before .before .before .before .before .args .n) (c .before .before .before .before .before .before .args .es) (c .before .before .before .before .before .before .args .a) (c .before .before .before .before .before .before .args .b) (c .before .before .before .before .before .judge-ranges .ensures) over (omega arith) (c .before .before .before .before .if1 .left)
-    (sym (c .before .before .before .has-zero .ensures) ∙ c .before .before .if2 .left) (c .before .divide-ranges .ensures) (c .done .ensures)
+    quotient-done _ _ _ _ (c .before .before .before .before .before .before .before .take-words .ensures) (c .before .before .before .before .before .left .given .1)
+    (sym (c .before .before .before .has-zero .ensures) ∙ c .before .before .if1 .left) (c .before .divide-cells .ensures) (c .done .ensures)
 
 pub divide-spec : {M : Type 1} → statement M
-divide-spec = tie.close (tie.spec judge-ranges-requires refused-requires returns has-zero-requires refused-requires-2 returns-2 divide-ranges-requires done-requires returns-3)
+divide-spec =
+    tie.close
+    (tie.spec
+    take-words-requires
+    enum-known-number
+    refused-requires
+    enum-known-left
+    has-zero-requires
+    refused-requires-2
+    returns
+    divide-cells-requires
+    done-requires
+    returns-2
+    returns-3)

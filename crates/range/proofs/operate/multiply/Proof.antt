@@ -1,29 +1,46 @@
 -- `range::operate::multiply` meets its contract: the ranges are judged first, and the product of real ones is the computed answer.
-use mathlib.Core.Path.{refl}
 use native.Mathlib.Omega.{arith}
 use borrow.Author.Needs.{needs}
 use Rattle.posit.specs.Operation.{times}
-use Rattle.range.proofs.Operations.{call-asks, call-refused, call-done}
+use Rattle.range.proofs.Operations.{call-real-cells, call-refused, product-done}
 use Rattle.range.proofs.operate.multiply.Statement.{statement}
 use Rattle.range.proofs.operate.multiply.Tie as tie
 
-judge-ranges-requires : tie.Need-judge-ranges-requires
-judge-ranges-requires c κs = search needs
+take-words-requires : tie.Need-take-words-requires
+take-words-requires c κs = search needs
+
+enum-known-number : tie.Need-enum-known-number
+enum-known-number c = search needs
 
 refused-requires : tie.Need-refused-requires
 refused-requires c κs = search needs
 
-returns : tie.Need-returns
-returns c = call-refused (c .before .before .before .args .n) (c .before .before .before .args .es) (c .before .before .before .args .a) (c .before .before .before .args .b) (c .before .before .judge-ranges .ensures) times (omega arith) (c .before .if1 .taken) (c .refused .ensures)
+enum-known-left : tie.Need-enum-known-left
+enum-known-left c = search needs
 
-multiply-ranges-requires : tie.Need-multiply-ranges-requires
-multiply-ranges-requires c κs = call-asks (c .before .before .args .n) (c .before .before .args .es) (c .before .before .args .a) (c .before .before .args .b) (c .before .judge-ranges .ensures) (c .if1 .left)
+multiply-cells-requires : tie.Need-multiply-cells-requires
+multiply-cells-requires c κs =
+    call-real-cells _ _ _ _ (c .before .before .before .take-words .ensures) (c .before .left .given .1)
 
 done-requires : tie.Need-done-requires
 done-requires c κs = search needs
 
+returns : tie.Need-returns
+returns c = call-refused _ _ _ _ (c .before .before .before .before .take-words .ensures) times (omega arith) (c .before .before .number .given .1) (c .refused .ensures)
+
 returns-2 : tie.Need-returns-2
-returns-2 c = call-done (c .before .before .before .before .args .n) (c .before .before .before .before .args .es) (c .before .before .before .before .args .a) (c .before .before .before .before .args .b) (c .before .before .before .judge-ranges .ensures) times (omega arith) (c .before .before .if1 .left) refl (c .before .multiply-ranges .ensures) (c .done .ensures)
+returns-2 c =
+    product-done _ _ _ _ (c .before .before .before .before .before .take-words .ensures) (c .before .before .before .left .given .1) (c .before .multiply-cells .ensures) (c .done .ensures)
 
 pub multiply-spec : {M : Type 1} → statement M
-multiply-spec = tie.close (tie.spec judge-ranges-requires refused-requires returns multiply-ranges-requires done-requires returns-2)
+multiply-spec =
+    tie.close
+    (tie.spec
+    take-words-requires
+    enum-known-number
+    refused-requires
+    enum-known-left
+    multiply-cells-requires
+    done-requires
+    returns
+    returns-2)

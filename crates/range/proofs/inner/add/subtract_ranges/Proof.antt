@@ -1,18 +1,20 @@
--- `range::inner::add::subtract_ranges` meets its contract: the negated range has the negatives, so that the sum is the difference (`Difference`).
-use mathlib.Core.Path.{_∙_}
-use Rattle.range.proofs.Difference.{difference-is-sum}
+-- `range::inner::add::subtract_ranges` meets its contract: the answer is the difference of the left range's cells and the right word (`Difference`).
 use borrow.Author.Needs.{needs}
+use Rattle.range.proofs.RealWords.{cells-at-hand}
+use Rattle.range.proofs.Difference.{difference-found}
 use Rattle.range.proofs.inner.add.subtract_ranges.Statement.{statement}
 use Rattle.range.proofs.inner.add.subtract_ranges.Tie as tie
 
-turned-requires : tie.Need-turned-requires
-turned-requires c κs = search needs
+cells-of-requires : tie.Need-cells-of-requires
+cells-of-requires c κs = search needs
 
-add-ranges-requires : tie.Need-add-ranges-requires
-add-ranges-requires c κs = (c .before .pre .0, c .before .pre .1, c .turned .ensures .smallest .real)
+subtract-word-requires : tie.Need-subtract-word-requires
+subtract-word-requires c κs =
+    (c .before .pre .0, cells-at-hand (c .before .pre .0) (c .before .pre .1) (c .cells-of .ensures), c .before .pre .2)
 
 returns : tie.Need-returns
-returns c = c .add-ranges .ensures ∙ difference-is-sum _ _ (c .before .before .pre .0 .wide-enough) (c .before .before .pre .2) (c .before .turned .ensures) (c .before .before .args .a)
+returns c =
+    difference-found _ _ (c .before .before .pre .0 .wide-enough) (c .before .before .pre .2) (c .before .before .pre .1) (c .before .cells-of .ensures) (c .subtract-word .ensures)
 
 pub subtract-ranges-spec : {M : Type 1} → statement M
-subtract-ranges-spec = tie.close (tie.spec turned-requires add-ranges-requires returns)
+subtract-ranges-spec = tie.close (tie.spec cells-of-requires subtract-word-requires returns)

@@ -1,83 +1,74 @@
--- `range::inner::add::sum_cell` meets its contract: each case of the decoded operands is a law of `SumCells`.
-use Rattle.posit.proofs.SmallScale.{kept-small}
-use Rattle.posit.proofs.Operated.{is-nar, is-zero, is-small}
-use Rattle.range.proofs.SumCells.{zero-left, zero-right, numbers-cell}
+-- `range::inner::add::sum_cell` meets its contract: beside 0 the cell is that of the other posit, and else that of the exact sum (`SumCells`).
+use mathlib.Core.Path.{_∙_}
+use native.Mathlib.Omega.{arith}
 use borrow.Author.Needs.{needs}
+use lib.Pow.{pow-pos}
+use Rattle.posit.proofs.Added.{something-words}
+use Rattle.range.proofs.SumCells.{zero-left, zero-right, nothing-cell, something-cell, signed-sum}
 use Rattle.range.proofs.inner.add.sum_cell.Statement.{statement}
 use Rattle.range.proofs.inner.add.sum_cell.Tie as tie
-
-unpack-requires : tie.Need-unpack-requires
-unpack-requires c κs = search needs
-
-enum-told : tie.Need-enum-told
-enum-told c = search needs
-
-enum-told-2 : tie.Need-enum-told-2
-enum-told-2 c = search needs
 
 posit-cell-requires : tie.Need-posit-cell-requires
 posit-cell-requires c κs = search needs
 
-enum-known-less : tie.Need-enum-known-less
-enum-known-less c = search needs
-
-unpack-requires-2 : tie.Need-unpack-requires-2
-unpack-requires-2 c κs = search needs
-
-enum-told-3 : tie.Need-enum-told-3
-enum-told-3 c = search needs
-
-enum-told-4 : tie.Need-enum-told-4
-enum-told-4 c = search needs
+returns : tie.Need-returns
+returns c = zero-left _ _ (c .before .before .pre .0 .wide-enough) (c .before .before .pre .2) (c .before .if1 .taken) (c .posit-cell .ensures)
 
 posit-cell-requires-2 : tie.Need-posit-cell-requires-2
 posit-cell-requires-2 c κs = search needs
 
-enum-known-under : tie.Need-enum-known-under
-enum-known-under c = search needs
-
-finite-cell-requires : tie.Need-finite-cell-requires
-finite-cell-requires c κs = (
-  c .before .before .before .before .before .before .before .before .pre .0,
-  kept-small (is-small (c .before .before .before .before .before .before .before .unpack .ensures) (c .before .before .before .before .before .less .given .1)),
-  kept-small (is-small (c .before .before .before .unpack2 .ensures) (c .before .under .given .1)),
-)
-
-returns : tie.Need-returns
-returns c = absurd (c .before .before .before .pre .1 .not-nar (is-nar (c .before .before .unpack .ensures) (c .enum-told .given .1)))
-
 returns-2 : tie.Need-returns-2
-returns-2 c = zero-left _ _ (c .before .before .before .before .pre .0 .wide-enough) (c .before .before .before .before .pre .2)
-    (is-zero (c .before .before .before .unpack .ensures) (c .before .enum-told2 .given .1)) (c .posit-cell .ensures)
+returns-2 c = zero-right _ _ (c .before .before .before .pre .0 .wide-enough) (c .before .before .before .pre .1) (c .before .if2 .taken) (c .posit-cell2 .ensures)
+
+signed-form-requires : tie.Need-signed-form-requires
+signed-form-requires c κs = (c .before .before .pre .0, c .before .before .pre .1, omega (arith, c .before .if1 .left))
+
+signed-form-requires-2 : tie.Need-signed-form-requires-2
+signed-form-requires-2 c κs = (c .before .before .before .pre .0, c .before .before .before .pre .2, omega (arith, c .before .if2 .left))
+
+normal-sum-requires : tie.Need-normal-sum-requires
+normal-sum-requires c κs = (c .before .before .before .before .before .before .pre .0 .exponent-fits, c .before .before .before .signed-form .ensures .normal, c .before .before .signed-form2 .ensures .normal)
+
+enum-told : tie.Need-enum-told
+enum-told c = search needs
+
+power32-requires : tie.Need-power32-requires
+power32-requires c κs = search needs
+
+sub-result : tie.Need-sub-result
+sub-result c = omega (arith, pow-pos (c .before .before .before .before .before .before .before .before .before .before .args .n))
+
+enum-known-negative : tie.Need-enum-known-negative
+enum-known-negative c = search needs
+
+cell-of-requires : tie.Need-cell-of-requires
+cell-of-requires c κs = (c .before .before .before .before .before .before .before .before .before .before .pre .0, something-words _ (c .before .before .before .normal-sum .ensures) (c .before .negative .given .1))
 
 returns-3 : tie.Need-returns-3
-returns-3 c = absurd (c .before .before .before .before .before .before .before .pre .2 .not-nar (is-nar (c .before .before .unpack2 .ensures) (c .enum-told3 .given .1)))
+returns-3 c =
+    nothing-cell _ _ (c .before .before .before .before .before .before .before .before .before .before .pre .0 .wide-enough) _ (c .before .before .before .normal-sum .ensures) (c .before .enum-told .given .1) (c .power32 .ensures)
+    ∙ signed-sum _ _ (c .before .before .before .before .before .before .before .before .before .before .pre .0 .wide-enough) (c .before .before .before .before .before .before .before .signed-form .ensures) (c .before .before .before .before .before .before .signed-form2 .ensures)
 
 returns-4 : tie.Need-returns-4
-returns-4 c = zero-right _ _ (c .before .before .before .before .before .before .before .before .pre .0 .wide-enough) (c .before .before .before .before .before .before .before .before .pre .1)
-    (is-zero (c .before .before .before .unpack2 .ensures) (c .before .enum-told4 .given .1)) (c .posit-cell2 .ensures)
-
-returns-5 : tie.Need-returns-5
-returns-5 c = numbers-cell _ _ (c .before .before .before .before .before .before .before .before .before .pre .0 .wide-enough) (c .before .before .before .before .before .before .before .before .unpack .ensures)
-    (c .before .before .before .before .unpack2 .ensures) (c .before .before .before .before .before .before .less .given .1) (c .before .before .under .given .1) (c .finite-cell .ensures)
+returns-4 c =
+    something-cell _ _ (c .before .before .before .before .before .before .before .before .before .before .before .pre .0 .wide-enough) _ (c .before .before .before .before .normal-sum .ensures) (c .before .before .negative .given .1) (c .cell-of .ensures)
+    ∙ signed-sum _ _ (c .before .before .before .before .before .before .before .before .before .before .before .pre .0 .wide-enough) (c .before .before .before .before .before .before .before .before .signed-form .ensures) (c .before .before .before .before .before .before .before .signed-form2 .ensures)
 
 pub sum-cell-spec : {M : Type 1} → statement M
 sum-cell-spec =
     tie.close
     (tie.spec
-    unpack-requires
-    enum-told
-    enum-told-2
     posit-cell-requires
-    enum-known-less
-    unpack-requires-2
-    enum-told-3
-    enum-told-4
-    posit-cell-requires-2
-    enum-known-under
-    finite-cell-requires
     returns
+    posit-cell-requires-2
     returns-2
+    signed-form-requires
+    signed-form-requires-2
+    normal-sum-requires
+    enum-told
+    power32-requires
+    sub-result
+    enum-known-negative
+    cell-of-requires
     returns-3
-    returns-4
-    returns-5)
+    returns-4)

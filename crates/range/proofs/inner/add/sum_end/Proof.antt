@@ -1,6 +1,6 @@
 -- `range::inner::add::sum_end` meets its contract: its tests are whether the bounds at the two cells are there and closed (`SumCells`).
 use native.Mathlib.Omega.{arith}
-use Rattle.range.proofs.SumCells.{end-left, end-right, end-finite, end-closed, end-open}
+use Rattle.range.proofs.SumCells.{end-left, end-right, end-finite, end-found, marks-small, moved-small}
 use borrow.Author.Needs.{needs}
 use Rattle.range.proofs.inner.add.sum_end.Statement.{statement}
 use Rattle.range.proofs.inner.add.sum_end.Tie as tie
@@ -27,19 +27,21 @@ sum-cell-requires c κs = (
   end-finite _ (c .before .before .before .before .before .args .es) (c .before .before .before .before .before .pre .0 .wide-enough) (c .before .before .before .before .top-cell .ensures) (c .before .before .if2 .left) (c .before .before .before .before .before .pre .2) (c .end-posit2 .ensures),
 )
 
-add-if3 : tie.Need-add-if3
-add-if3 c = search needs
+mul-gap : tie.Need-mul-gap
+mul-gap c = omega (arith, marks-small (c .before .before .before .before .before .before .args .x) (c .before .before .before .before .before .before .args .y))
 
-returns-3 : tie.Need-returns-3
-returns-3 c = end-closed _ _ (c .before .before .before .before .before .before .before .pre .0 .wide-enough) (c .before .before .before .before .before .before .before .args .x) (c .before .before .before .before .before .before .before .args .y) (omega arith) (omega arith) (c .before .before .before .end-posit .ensures) (c .before .before .end-posit2 .ensures) (c .before .sum-cell .ensures)
-    (c .if3 .taken)
+sub-gap : tie.Need-sub-gap
+sub-gap c = marks-small (c .before .before .before .before .before .before .args .x) (c .before .before .before .before .before .before .args .y)
 
 mul-result : tie.Need-mul-result
-mul-result c = search needs
+mul-result c = omega (arith, moved-small (c .sum-cell .result) (c .before .before .before .before .before .before .args .x) (c .before .before .before .before .before .before .args .y))
 
-returns-4 : tie.Need-returns-4
-returns-4 c = end-open _ _ (c .before .before .before .before .before .before .before .pre .0 .wide-enough) (c .before .before .before .before .before .before .before .args .x) (c .before .before .before .before .before .before .before .args .y) (omega arith) (omega arith) (c .before .before .before .end-posit .ensures) (c .before .before .end-posit2 .ensures) (c .before .sum-cell .ensures)
-    (c .if3 .left)
+sub-result : tie.Need-sub-result
+sub-result c = omega (arith, moved-small (c .sum-cell .result) (c .before .before .before .before .before .before .args .x) (c .before .before .before .before .before .before .args .y))
+
+returns-3 : tie.Need-returns-3
+returns-3 c =
+    end-found _ _ (c .before .before .before .before .before .before .pre .0 .wide-enough) (c .before .before .before .before .before .before .args .x) (c .before .before .before .before .before .before .args .y) (omega arith) (omega arith) (c .before .before .end-posit .ensures) (c .before .end-posit2 .ensures) (c .sum-cell .ensures)
 
 pub sum-end-spec : {M : Type 1} → statement M
 sum-end-spec =
@@ -51,7 +53,8 @@ sum-end-spec =
     end-posit-requires
     end-posit-requires-2
     sum-cell-requires
-    add-if3
-    returns-3
+    mul-gap
+    sub-gap
     mul-result
-    returns-4)
+    sub-result
+    returns-3)

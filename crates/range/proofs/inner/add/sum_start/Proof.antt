@@ -1,6 +1,6 @@
 -- `range::inner::add::sum_start` meets its contract: its tests are whether the bounds at the two cells are there and closed (`SumCells`).
 use native.Mathlib.Omega.{arith}
-use Rattle.range.proofs.SumCells.{start-left, start-right, start-finite, start-closed, start-open, cell-small}
+use Rattle.range.proofs.SumCells.{start-left, start-right, start-finite, start-found, marks-small, moved-small, cell-small}
 use borrow.Author.Needs.{needs}
 use Rattle.range.proofs.inner.add.sum_start.Statement.{statement}
 use Rattle.range.proofs.inner.add.sum_start.Tie as tie
@@ -24,22 +24,22 @@ sum-cell-requires c κs = (
   start-finite _ (c .before .before .before .before .args .es) (c .before .before .before .before .pre .0 .wide-enough) (c .before .before .if2 .left) (c .before .before .before .before .pre .2) (c .start-posit2 .ensures),
 )
 
-add-if3 : tie.Need-add-if3
-add-if3 c = search needs
+mul-gap : tie.Need-mul-gap
+mul-gap c = omega (arith, marks-small (c .before .before .before .before .before .args .x) (c .before .before .before .before .before .args .y))
 
-returns-3 : tie.Need-returns-3
-returns-3 c = start-closed _ _ (c .before .before .before .before .before .before .pre .0 .wide-enough) (c .before .before .before .before .before .before .args .x) (c .before .before .before .before .before .before .args .y) (c .before .before .before .start-posit .ensures) (c .before .before .start-posit2 .ensures) (c .before .sum-cell .ensures)
-    (c .if3 .taken)
-
-add-result : tie.Need-add-result
-add-result c = omega (arith, cell-small _ _ (c .before .before .before .before .before .before .pre .0 .wide-enough) _ (c .before .before .before .before .before .before .pre .0 .not-too-wide) (c .before .sum-cell .ensures))
+sub-gap : tie.Need-sub-gap
+sub-gap c = marks-small (c .before .before .before .before .before .args .x) (c .before .before .before .before .before .args .y)
 
 mul-result : tie.Need-mul-result
-mul-result c = omega (arith, cell-small _ _ (c .before .before .before .before .before .before .pre .0 .wide-enough) _ (c .before .before .before .before .before .before .pre .0 .not-too-wide) (c .before .sum-cell .ensures))
+mul-result c = omega (arith, moved-small (c .sum-cell .result) (c .before .before .before .before .before .args .x) (c .before .before .before .before .before .args .y))
 
-returns-4 : tie.Need-returns-4
-returns-4 c = start-open _ _ (c .before .before .before .before .before .before .pre .0 .wide-enough) (c .before .before .before .before .before .before .args .x) (c .before .before .before .before .before .before .args .y) (c .before .before .before .start-posit .ensures) (c .before .before .start-posit2 .ensures) (c .before .sum-cell .ensures)
-    (c .before .before .before .before .before .if1 .left) (c .before .before .before .before .if2 .left) (c .if3 .left)
+add-result : tie.Need-add-result
+add-result c = omega (arith, moved-small (c .sum-cell .result) (c .before .before .before .before .before .args .x) (c .before .before .before .before .before .args .y), cell-small _ _ (c .before .before .before .before .before .pre .0 .wide-enough) _ (c .before .before .before .before .before .pre .0 .not-too-wide) (c .sum-cell .ensures))
+
+returns-3 : tie.Need-returns-3
+returns-3 c =
+    start-found _ _ (c .before .before .before .before .before .pre .0 .wide-enough) (c .before .before .before .before .before .args .x) (c .before .before .before .before .before .args .y) (c .before .before .start-posit .ensures) (c .before .start-posit2 .ensures) (c .sum-cell .ensures)
+    (c .before .before .before .before .if1 .left) (c .before .before .before .if2 .left)
 
 pub sum-start-spec : {M : Type 1} → statement M
 sum-start-spec =
@@ -50,8 +50,8 @@ sum-start-spec =
     start-posit-requires
     start-posit-requires-2
     sum-cell-requires
-    add-if3
-    returns-3
-    add-result
+    mul-gap
+    sub-gap
     mul-result
-    returns-4)
+    add-result
+    returns-3)
