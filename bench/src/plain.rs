@@ -1,6 +1,7 @@
 //! The posit calls in plain Rust, by the steps of the proved code, without proofs.
 
 mod float;
+mod normal;
 mod operate;
 pub mod range;
 mod sum;
@@ -181,16 +182,24 @@ fn locate(n: u32, es: u32, g: u64, s: u64, a: u64) -> (u32, bool) {
     let scale = lift - a;
     let regime = scale / power(es);
     let x = scale % power(es) * power(h) + (g - power(h));
-    if regime < n as u64 - 1 {
-        let w = regime as u32;
-        return cut(power32(w), w, h + es, x);
-    }
     if regime < 2 * (n as u64 - 1) {
-        let w = 2 * n - 3 - regime as u32;
-        return cut(power32(n) - 2 * power32(w), w, h + es, x);
+        return behind_run(n, regime as u32, h + es, x);
     }
     let top = 2 * (n as u64 - 1) * power(es);
     (power32(n) - 1, scale == top && g == power(h))
+}
+
+/// The tail x behind the run of a regime, without a jump on which run it is.
+fn behind_run(n: u32, regime: u32, width: u32, x: u64) -> (u32, bool) {
+    let ones = (regime + 33 - n) / 32;
+    let w = chosen(ones, regime, 2 * n - 3 - regime);
+    let unit = power32(w);
+    cut(chosen(ones, unit, power32(n) - 2 * unit), w, width, x)
+}
+
+/// The first where the mark is 0, and the second where it is 1.
+fn chosen(mark: u32, first: u32, second: u32) -> u32 {
+    first * (1 - mark) + second * mark
 }
 
 fn cut(head: u32, w: u32, width: u32, x: u64) -> (u32, bool) {

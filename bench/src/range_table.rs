@@ -53,17 +53,16 @@ fn line(column: &Ranges, op: u8) -> String {
     let [single, combined, plain, boost, base, once, mpfi, second] = nanoseconds([
         &|| pass(column, |c, row| proved(c, op, row)),
         &|| combine(column, op, &mut lent.borrow_mut()),
-        &|| plain_pass(column, op),
+        &|| pass(column, |c, row| plain_operation(c, op, row)),
         &|| peers[0].combine(op),
         &|| peers[1].combine(op),
         &|| peers[2].combine(op),
         &|| peers[3].combine(op),
         &|| pass(column, |c, row| second_operation(c, op, row)),
     ]);
-    let plain = plain::range::OPERATE.map_or("–".to_string(), |_| format!("{plain:.1}"));
     let peers = format!("{boost:.1} | {base:.1} | {once:.1} | {mpfi:.1}");
     let ratios = format!("{:.2} | {:.2}", boost / combined, mpfi / combined);
-    format!("{single:.1} | {combined:.1} | {plain} | {peers} | {second:.1} | {ratios}")
+    format!("{single:.1} | {combined:.1} | {plain:.1} | {peers} | {second:.1} | {ratios}")
 }
 
 fn proved(c: &Ranges, op: u8, row: usize) -> range::RangeAnswer {
@@ -79,22 +78,15 @@ fn combine(c: &Ranges, op: u8, lent: &mut [u64]) {
     assert_eq!(answer.number, 0);
 }
 
-fn plain_pass(column: &Ranges, op: u8) {
-    if let Some(call) = plain::range::OPERATE {
-        pass(column, |c, row| {
-            call(c.n, c.es, op, c.left[row], c.right[row])
-        });
-    }
+fn plain_operation(c: &Ranges, op: u8, row: usize) -> range::RangeAnswer {
+    plain::range::operate(c.n, c.es, op, c.left[row], c.right[row])
 }
 
-/// Plain Rust, once it is written, answers as the proved code does.
+/// Plain Rust answers as the proved code does.
 fn hold_plain(c: &Ranges, op: u8) {
-    let Some(call) = plain::range::OPERATE else {
-        return;
-    };
     for row in 0..LENGTH {
-        let answer = call(c.n, c.es, op, c.left[row], c.right[row]);
-        assert_eq!(proved(c, op, row), answer, "operation {op}, row {row}");
+        let (proved, plain) = (proved(c, op, row), plain_operation(c, op, row));
+        assert_eq!(proved, plain, "operation {op}, row {row}");
     }
 }
 
