@@ -1,46 +1,38 @@
--- `posit::inner::choose::chosen` meets its contract: a mark is 0 or 1, so one of the two terms is 0 and the other is its number.
-use mathlib.Core.Path.{_≡_}
-use Prim.Native.Nat.{ℕ, zero, suc, _+_, _-_, _*_, _^_, _≤_, _<_}
+-- `posit::inner::choose::chosen` meets its contract: no difference added leaves the first, and one, wrapping, comes to the second.
+use mathlib.Core.Path.{_≡_, ap, _∙_}
+use Prim.Native.Nat.{ℕ, zero, suc, _+_, _*_, _%_, _^_, _≤_, _<_}
+use native.Mathlib.Nat.{add-comm, mod-eq-of-lt}
 use native.Mathlib.Omega.{arith}
 use borrow.Author.Needs.{needs}
 use Rattle.posit.specs.Parts.{chosenBy}
 use Rattle.posit.proofs.inner.choose.chosen.Statement.{statement}
 use Rattle.posit.proofs.inner.choose.chosen.Tie as tie
 
-by-mark : (mark a b : ℕ) → mark ≤ 1 → a * (1 - mark) + b * mark ≡ chosenBy mark a b
-by-mark zero a b h = omega arith
-by-mark (suc zero) a b h = omega arith
-by-mark (suc (suc k)) a b h = omega (arith, h)
+times-small : (mark d : ℕ) → mark ≤ 1 → d < 2 ^ 32 → mark * d < 2 ^ 32
+times-small zero d h s = omega arith
+times-small (suc zero) d h s = omega (arith, s)
+times-small (suc (suc k)) d h s = omega (arith, h)
 
-first-small : (mark a : ℕ) → mark ≤ 1 → a < 2 ^ 32 → a * (1 - mark) < 2 ^ 32
-first-small zero a h s = omega (arith, s)
-first-small (suc zero) a h s = omega (arith, s)
-first-small (suc (suc k)) a h s = omega (arith, h)
+by-mark : (mark a b d : ℕ) → mark ≤ 1 → a < 2 ^ 32 → (d + a) % 2 ^ 32 ≡ b → (a + mark * d) % 2 ^ 32 ≡ chosenBy mark a b
+by-mark zero a b d h s e = omega (arith, s)
+by-mark (suc zero) a b d h s e = omega (arith, e)
+by-mark (suc (suc k)) a b d h s e = omega (arith, h)
 
-second-small : (mark b : ℕ) → mark ≤ 1 → b < 2 ^ 32 → b * mark < 2 ^ 32
-second-small zero b h s = omega (arith, s)
-second-small (suc zero) b h s = omega (arith, s)
-second-small (suc (suc k)) b h s = omega (arith, h)
+wrapping-sub-u32-requires : tie.Need-wrapping-sub-u32-requires
+wrapping-sub-u32-requires c κs = search needs
 
-both-small : (mark a b : ℕ) → mark ≤ 1 → a < 2 ^ 32 → b < 2 ^ 32 → a * (1 - mark) + b * mark < 2 ^ 32
-both-small zero a b h s t = omega (arith, s)
-both-small (suc zero) a b h s t = omega (arith, t)
-both-small (suc (suc k)) a b h s t = omega (arith, h)
+mul-wrapping-add-u32 : tie.Need-mul-wrapping-add-u32
+mul-wrapping-add-u32 c = record { fits = times-small (c .before .args .mark) (c .wrapping-sub-u32 .result) (c .before .pre) (c .wrapping-sub-u32 .ok) }
 
-sub-result : tie.Need-sub-result
-sub-result c = search needs
-
-mul-result : tie.Need-mul-result
-mul-result c = record { fits = first-small (c .args .mark) (c .args .first) (c .pre) (c .good .1 .0 .1) }
-
-mul-result-2 : tie.Need-mul-result-2
-mul-result-2 c = record { fits = second-small (c .args .mark) (c .args .second) (c .pre) (c .good .1 .1 .0 .1) }
-
-add-result : tie.Need-add-result
-add-result c = record { fits = both-small (c .args .mark) (c .args .first) (c .args .second) (c .pre) (c .good .1 .0 .1) (c .good .1 .1 .0 .1) }
+wrapping-add-u32-requires : tie.Need-wrapping-add-u32-requires
+wrapping-add-u32-requires c κs = search needs
 
 returns : tie.Need-returns
-returns c = by-mark (c .args .mark) (c .args .first) (c .args .second) (c .pre)
+returns c =
+    c .wrapping-add-u32 .ensures
+    ∙ by-mark (c .before .before .args .mark) (c .before .before .args .first) (c .before .before .args .second) (c .before .wrapping-sub-u32 .result) (c .before .before .pre) (c .before .before .good .1 .0 .1) (c .before .wrapping-sub-u32 .ensures)
 
 pub chosen-spec : {M : Type 1} → statement M
-chosen-spec = tie.close (tie.spec sub-result mul-result mul-result-2 add-result returns)
+chosen-spec =
+    tie.close
+    (tie.spec wrapping-sub-u32-requires mul-wrapping-add-u32 wrapping-add-u32-requires returns)
