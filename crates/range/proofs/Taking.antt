@@ -21,7 +21,7 @@ use Rattle.range.specs.Calls.{SaysVerdict, verdictOfWord}
 use Rattle.range.specs.Taking.{TakesWord, withoutCells, RefusesBoth, PassesBoth, TakesBoth}
 use Rattle.range.proofs.Places.{start-tile-of-word, end-tile-of-word}
 use Rattle.range.proofs.WordKinds.{closed-start-infinite, closed-end-infinite, infinite-by-cells}
-use Rattle.range.proofs.RealWords.{between-some, between-none}
+use Rattle.range.proofs.RealWords.{between-some, between-none, start-not-nar, end-not-nar}
 use Rattle.range.proofs.Tiles.{half-small, half-large, closed-half, nar-of-turn, turn-of-nar, one-turn, start-cell-is, end-cell-is}
 use Rattle.range.proofs.Verdicts.{says, word-too-large, word-infinite, word-done, word-real, word-placed, range-outside, range-inside, range-passes, ranges-left, ranges-right, ranges-done}
 
@@ -67,6 +67,13 @@ module _ {n w half s e : ℕ} (o : Opened n w half s e) where
   pub takes-closed-end : {r : Taken} → (e + half) % (2 * half) ≡ 0 → r ≡ withoutCells n 4 → TakesWord n w r
   takes-closed-end z = takes-infinite (o .fits) (closed-end-infinite n w (sym (o .end) ∙ nar-of-turn e half end-there z ∙ sym nar-is))
 
+  -- no tile of a real range is a closed NaR
+  pub real-start : Real n w → (s + half) % (2 * half) ≢ 0
+  real-start r z = start-not-nar n (o .wide) r (sym (o .start) ∙ nar-of-turn s half start-there z ∙ sym nar-is)
+
+  pub real-end : Real n w → (e + half) % (2 * half) ≢ 0
+  real-end r z = end-not-nar n (o .wide) r (sym (o .end) ∙ nar-of-turn e half end-there z ∙ sym nar-is)
+
   module _ (c : (s + half) % (2 * half) ≢ 0) (d : (e + half) % (2 * half) ≢ 0) where
     abbrev lo : ℕ
     lo = (s + half) % (2 * half) - 1
@@ -97,21 +104,27 @@ module _ {n w half s e : ℕ} (o : Opened n w half s e) where
         go true i = absurd (f (infinite-iff .0 i))
         go false i = i
 
+    in-order : lo ≤ hi → startCell n (startTile n w) ≤ endCell n (endTile n w)
+    in-order l = omega (arith, first-cell, last-cell)
+
+    pub some-cells : lo ≤ hi → record { lo = lo; hi = hi } ≡ cellsOf n w
+    some-cells l = sym (between-some n (startTile n w) (endTile n w) (in-order l) ∙ (λ i. record { lo = sym first-cell i; hi = sym last-cell i }))
+
     pub takes-cells : lo ≤ hi → TakesWord n w (record { number = 0; cells = record { lo = lo; hi = hi } })
-    takes-cells l =
-        let m : startCell n (startTile n w) ≤ endCell n (endTile n w) = omega (arith, first-cell, last-cell) in
-        takes-real (o .fits) (not-infinite (λ i. absurd (omega (arith, i .1, m)))) refl
-        (sym (between-some n (startTile n w) (endTile n w) m ∙ (λ i. record { lo = sym first-cell i; hi = sym last-cell i })))
+    takes-cells l = takes-real (o .fits) (not-infinite (λ i. absurd (omega (arith, i .1, in-order l)))) refl (some-cells l)
 
     module _ (l : hi < lo) where
       turned-round : endCell n (endTile n w) < startCell n (startTile n w)
       turned-round = omega (arith, first-cell, last-cell)
 
+      pub none-cells : noCells n ≡ cellsOf n w
+      none-cells = sym (between-none n (startTile n w) (endTile n w) turned-round)
+
       pub takes-none : {r : Taken} → (s + half) % (2 * half) ≡ (e + half) % (2 * half) → r ≡ withoutCells n 0 → TakesWord n w r
       takes-none i k =
           takes-real (o .fits) (not-infinite (λ j. j .0 (sym (o .start) ∙ one-turn s e half start-there end-there i ∙ o .end)))
           (ap (λ (t : Taken). t .number) k)
-          (ap (λ (t : Taken). t .cells) k ∙ sym (between-none n (startTile n w) (endTile n w) turned-round))
+          (ap (λ (t : Taken). t .cells) k ∙ none-cells)
 
       pub takes-turned : {r : Taken} → (s + half) % (2 * half) ≢ (e + half) % (2 * half) → r ≡ withoutCells n 4 → TakesWord n w r
       takes-turned i =
@@ -119,8 +132,7 @@ module _ {n w half s e : ℕ} (o : Opened n w half s e) where
           (infinite-iff .1 (λ j. i (ap (λ (t : ℕ). (t + half) % (2 * half)) (o .start ∙ j ∙ sym (o .end))), turned-round))
 
 -- ---- a real word is not refused, so its cells are there
-pub cells-taken : {n w : ℕ} {r : Taken} → Real n w → TakesWord n w r → r .cells ≡ cellsOf n w
-cells-taken {n} {w} q t = t .cells (t .number ∙ ap (λ (v : Verdict). v .number) (word-done n left w (q .fits) (q .no-infinity)))
+
 
 -- ---- the verdict of a word by what was taken, at every place
 module _ {n w : ℕ} {r : Taken} (t : TakesWord n w r) where

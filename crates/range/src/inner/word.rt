@@ -76,10 +76,19 @@ pub fn take_word(n: u32, w: u64) -> Taken
     without_cells(n, HOLDS_INFINITY)
 }
 
-// The cells of a real range's members.
+// The cells of a real range's members, by the same turn without the tests.
 pub fn cells_of(n: u32, w: u64) -> Span
     requires { ⌜ (3 ≤ n) × (n ≤ 16) × (Real n w) ⌝ }
     ensures { λ r. ⌜ r ≡ cellsOf n w ⌝ }
 {
-    take_word(n, w).cells
+    let half = power32(n);
+    let all = 2 * half;
+    let first = (start_tile(n, w) + half) % all;
+    let last = (end_tile(n, w) + half) % all;
+    let lo = first - 1;
+    let hi = (last + all - 1 - 2 * (last % 2)) % all;
+    if lo <= hi {
+        return Span { lo: lo, hi: hi };
+    }
+    no_cells(n)
 }
