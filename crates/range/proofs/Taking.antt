@@ -133,7 +133,6 @@ module _ {n w half s e : ℕ} (o : Opened n w half s e) where
 
 -- ---- a real word is not refused, so its cells are there
 
-
 -- ---- the verdict of a word by what was taken, at every place
 module _ {n w : ℕ} {r : Taken} (t : TakesWord n w r) where
   number-of : r .number ≡ 0 → verdictOfWord n left w .number ≡ 0
