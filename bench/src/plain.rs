@@ -52,10 +52,9 @@ fn unpack(n: u32, es: u32, p: u32) -> PositDecoding {
         decoding(0, ZERO)
     } else if p == nar {
         decoding(0, NAR)
-    } else if p < nar {
-        odd_form(n, es, false, p)
     } else {
-        odd_form(n, es, true, negated(n, p))
+        let size = chosen(p / nar, p, negated(n, p));
+        odd_form(n, es, nar < p, size)
     }
 }
 
@@ -89,21 +88,18 @@ fn odd_form(n: u32, es: u32, negative: bool, p: u32) -> PositDecoding {
 }
 
 fn take_apart(b: u32, es: u32, p: u32) -> Parts {
-    if p < power32(b - 1) {
-        let w = highest_bit(p as u64);
-        return tail_apart(es, w, w, p - power32(w));
-    }
-    let all = power32(b);
-    let missing = all - 1 - p;
-    if missing == 0 {
+    let ones = p / power32(b - 1);
+    let run = chosen(ones, p, power32(b) - 1 - p);
+    if run == 0 {
         return Parts {
             scale: 2 * ((b - 1) * power32(es)),
             bits: 0,
             significand: 1,
         };
     }
-    let w = highest_bit(missing as u64);
-    tail_apart(es, 2 * b - 3 - w, w, p + 2 * power32(w) - all)
+    let w = highest_bit(run as u64);
+    let regime = chosen(ones, w, 2 * b - 3 - w);
+    tail_apart(es, regime, w, p % power32(w))
 }
 
 fn tail_apart(es: u32, regime: u32, w: u32, tail: u32) -> Parts {
@@ -199,7 +195,7 @@ fn behind_run(n: u32, regime: u32, width: u32, x: u64) -> (u32, bool) {
 
 /// The first where the mark is 0, and the second where it is 1.
 fn chosen(mark: u32, first: u32, second: u32) -> u32 {
-    first * (1 - mark) + second * mark
+    first.wrapping_add(mark * second.wrapping_sub(first))
 }
 
 fn cut(head: u32, w: u32, width: u32, x: u64) -> (u32, bool) {
@@ -210,14 +206,12 @@ fn cut(head: u32, w: u32, width: u32, x: u64) -> (u32, bool) {
 fn rounded(n: u32, floor: u32, exact: bool) -> u32 {
     let half = floor / 2;
     if half == 0 {
-        1
-    } else if floor.is_multiple_of(2) || half == power32(n - 1) - 1 {
-        half
-    } else if exact {
-        half + half % 2
-    } else {
-        half + 1
+        return 1;
     }
+    if half == power32(n - 1) - 1 {
+        return half;
+    }
+    half + floor % 2 * (1 - exact as u32 * (1 - half % 2))
 }
 
 #[inline(never)]

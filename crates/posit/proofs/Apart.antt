@@ -1,17 +1,18 @@
 -- The parts that a pattern is taken into mean its multiple: the growth of a tail is its quotient and remainder, which are scale and significand.
-use mathlib.Core.Path.{_≡_, sym, ap, _∙_}
-use Prim.Native.Nat.{ℕ, suc, _+_, _-_, _*_, _/_, _%_, _^_, _≤_, _<_}
-use native.Mathlib.Nat.{pow-succ', lt-of-lt-of-le, mul-assoc, mul-le-mul-right, mul-lt-mul-of-pos-left, div-lt-iff-lt-mul, mod-lt}
+use mathlib.Core.Path.{_≡_, refl, sym, ap, _∙_, subst, subst₂}
+use Prim.Native.Nat.{ℕ, zero, suc, _+_, _-_, _*_, _/_, _%_, _^_, _≤_, _<_}
+use native.Mathlib.Nat.{pow-succ', lt-of-lt-of-le, mul-assoc, mul-le-mul-right, mul-lt-mul-of-pos-left, div-lt-iff-lt-mul, le-div-iff-mul-le, mod-lt, mod-eq-of-lt, add-mul-mod-self-right}
 use native.Mathlib.Omega.{arith}
 use lib.Pow.{pow-pos, pow-mono, pow-lt, pow-add, shl-lt, shr-le}
 use mir.Syntax.{w32}
 use mir.Val.{Fits}
 use Rattle.posit.specs.declared.inner.unpack.Parts.{Parts}
-use Rattle.posit.specs.Parts.{HighestBit, TailParts, PartsOf}
+use Rattle.posit.specs.Parts.{chosenBy, HighestBit, TailParts, PartsOf}
 use Rattle.posit.specs.Value.{multiple}
 use Rattle.posit.proofs.Growth.{G}
 use Rattle.posit.proofs.Shapes.{zeros-value, ones-value, allOnes-value}
 use Rattle.posit.proofs.SetBits.{highest-below}
+use Rattle.posit.proofs.Chosen.{first-of, second-of}
 
 -- ---- times 2^es, a tail and a regime still fit
 pub times-power : (j : ℕ) {es x : ℕ} → es ≤ 2 → x < 2 ^ j → x * 2 ^ es < 2 ^ (j + 2)
@@ -97,3 +98,81 @@ all-ones-parts b es p P l e q =
       few-bits = omega arith;
       scale-fits = omega arith;
     })
+
+-- ---- by the first bit, which is the quotient by 2^(b - 1)
+pub data FirstBit (b p m : ℕ) : Type 0 where
+  clear : m ≡ 0 → p < 2 ^ (b - 1) → FirstBit b p m
+  set : m ≡ 1 → 2 ^ (b - 1) ≤ p → FirstBit b p m
+
+twice : (b : ℕ) → 1 ≤ b → 2 ^ b ≡ 2 * 2 ^ (b - 1)
+twice b l = ap (λ (n : ℕ). 2 ^ n) {x = b} {y = suc (b - 1)} (omega arith) ∙ pow-succ' 2 (b - 1)
+
+pub first-bit : (b p : ℕ) {P : ℕ} → 1 ≤ b → p < 2 ^ b → P ≡ 2 ^ (b - 1) → FirstBit b p (p / P)
+first-bit b p {P} l u e = rw e (go (p / 2 ^ (b - 1)) refl)
+  where
+    half : 0 < 2 ^ (b - 1)
+    half = pow-pos (b - 1)
+
+    below-two : p / 2 ^ (b - 1) < 2
+    below-two = div-lt-iff-lt-mul {k = 2 ^ (b - 1)} {x = p} {y = 2} half .1 (omega (arith, u, twice b l))
+
+    go : (m : ℕ) → p / 2 ^ (b - 1) ≡ m → FirstBit b p (p / 2 ^ (b - 1))
+    go zero z = clear z (omega (arith, div-lt-iff-lt-mul {k = 2 ^ (b - 1)} {x = p} {y = 1} half .0 (omega (arith, z))))
+    go (suc zero) z = set z (omega (arith, le-div-iff-mul-le {k = 2 ^ (b - 1)} {x = 1} {y = p} half .0 (omega (arith, z))))
+    go (suc (suc m)) z = absurd (omega (arith, z, below-two))
+
+-- the mark, the run and the bit that closes it
+module _ {b p m : ℕ} (l : 2 ≤ b) (u : p < 2 ^ b) (f : FirstBit b p m) where
+  pub bit-small : m ≤ 1
+  bit-small = go f
+    where
+      go : FirstBit b p m → m ≤ 1
+      go (clear e k) = omega (arith, e)
+      go (set e k) = omega (arith, e)
+
+  module _ {all run : ℕ} (a : all ≡ 2 ^ b) (c : run ≡ chosenBy m p (all - 1 - p)) where
+    pub none-missing : 0 < p → run ≡ 0 → p + 1 ≡ 2 ^ b
+    none-missing s z = go f
+      where
+        go : FirstBit b p m → p + 1 ≡ 2 ^ b
+        go (clear e k) = absurd (omega (arith, s, sym (first-of m (all - 1 - p) c e) ∙ z))
+        go (set e k) = omega (arith, sym (second-of m p c e) ∙ z, a, u)
+
+    module _ {w : ℕ} (h : HighestBit run w) where
+      as-zeros : m ≡ 0 → HighestBit p w
+      as-zeros e = subst (λ (x : ℕ). HighestBit x w) (first-of m (all - 1 - p) c e) h
+
+      as-ones : m ≡ 1 → 2 ^ (b - 1) ≤ p → Ones b p w
+      as-ones e k = ones-of a l k u (subst (λ (x : ℕ). HighestBit x w) (second-of m p c e) h)
+
+      pub closed-early : w + 2 ≤ b
+      closed-early = go f
+        where
+          go : FirstBit b p m → w + 2 ≤ b
+          go (clear e k) = omega (arith, highest-below (b - 1) (as-zeros e) k)
+          go (set e k) = as-ones e k .few
+
+      -- what stands behind the closing bit is the remainder, whichever the run
+      zeros-tail : HighestBit p w → p % 2 ^ w ≡ p - 2 ^ w
+      zeros-tail g =
+          ap (λ (x : ℕ). x % 2 ^ w) {x = p} {y = p - 2 ^ w + 1 * 2 ^ w} (omega (arith, g .at-least))
+          ∙ add-mul-mod-self-right (p - 2 ^ w) 1 (2 ^ w) ∙ mod-eq-of-lt (omega (arith, g .at-least, g .less))
+
+      whole-turns : Ones b p w → 2 ^ (b - w) * 2 ^ w ≡ 2 ^ b
+      whole-turns o = sym (pow-add 2 (b - w) w) ∙ ap (λ (x : ℕ). 2 ^ x) {x = b - w + w} {y = b} (omega (arith, o .few))
+
+      ones-tail : Ones b p w → p % 2 ^ w ≡ p + 2 * 2 ^ w - 2 ^ b
+      ones-tail o =
+          sym (add-mul-mod-self-right p 2 (2 ^ w))
+          ∙ ap (λ (x : ℕ). x % 2 ^ w) {x = p + 2 * 2 ^ w} {y = p + 2 * 2 ^ w - 2 ^ b + 2 ^ (b - w) * 2 ^ w} (omega (arith, o .room, whole-turns o))
+          ∙ add-mul-mod-self-right (p + 2 * 2 ^ w - 2 ^ b) (2 ^ (b - w)) (2 ^ w) ∙ mod-eq-of-lt (o .tail)
+
+      pub parts-by-run : {es regime tail : ℕ} {r : Parts} → regime ≡ chosenBy m w (2 * b - 3 - w) → TailParts es regime w (p % tail) r → tail ≡ 2 ^ w → PartsOf b es p r
+      parts-by-run {es} {regime} {tail} {r} i t j = go f
+        where
+          by : {x y : ℕ} → regime ≡ x → p % 2 ^ w ≡ y → TailParts es x w y r
+          by k n = subst₂ (λ (x y : ℕ). TailParts es x w y r) k (ap (λ (z : ℕ). p % z) j ∙ n) t
+
+          go : FirstBit b p m → PartsOf b es p r
+          go (clear e k) = zeros-parts b es p w (as-zeros e) l k (by (first-of m (2 * b - 3 - w) i e) (zeros-tail (as-zeros e)))
+          go (set e k) = ones-parts b es p w (as-ones e k) (by (second-of m w i e) (ones-tail (as-ones e k)))

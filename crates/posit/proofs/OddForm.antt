@@ -1,6 +1,6 @@
 -- A magnitude 2^scale · significand / 2^bits of minPos, its significand divided down to an odd number and its scale counted from 1: what
 -- stands so is the posit's value, and with the sign it is the posit decoded. All numbers on the way are far below the limits of 32 bits.
-use mathlib.Core.Path.{_≡_, refl, ap, _∙_}
+use mathlib.Core.Path.{_≡_, refl, sym, ap, _∙_, subst₂}
 use mathlib.Core.Bool.{Bool, true, false, cond}
 use mathlib.Core.Logic.{_≢_}
 use Prim.Native.Nat.{ℕ, zero, suc, _+_, _-_, _*_, _/_, _^_, _≤_, _<_}
@@ -24,10 +24,12 @@ use Rattle.posit.specs.declared.decoded.Decoded.the-variants.{Zero, Nar,
 use Rattle.posit.specs.Format.{Format, nar, m, negated}
 use Rattle.posit.specs.Value.{multiple}
 use Rattle.posit.specs.Decoding.{Decodes}
-use Rattle.posit.specs.Parts.{PartsOf, OddOf, Odd}
+use Rattle.posit.specs.Parts.{chosenBy, PartsOf, OddOf, Odd}
 use Rattle.posit.specs.Magnitudes.{Small, Unpacks}
-use Rattle.posit.proofs.Apart.{times-power}
-use Rattle.posit.proofs.Mirror.{nar-is-half, units-below, value-above}
+use borrow.Author.Tests.{lt-ltb, le-ltb}
+use Rattle.posit.proofs.Chosen.{first-of, second-of}
+use Rattle.posit.proofs.Apart.{FirstBit, clear, set, times-power}
+use Rattle.posit.proofs.Mirror.{nar-is-half, negated-positive, units-below, value-above}
 use Rattle.posit.proofs.SetBits.{OddTimes, trailing, odd-quotient}
 use Rattle.posit.proofs.SmallForm.{ends-within, multiple-most, small-form}
 
@@ -143,3 +145,33 @@ unpacks-below {n} {p} es d k h u o = record { decodes = decodes-below es d k h u
 
 pub unpacks-above : {n p : ℕ} (es : ℕ) (d : Decoded) → 1 ≤ n → nar n < p → p < 2 ^ n → Odd n es true (negated n p) d → Unpacks n es p d
 unpacks-above {n} {p} es d k h u o = record { decodes = decodes-above es d k h u o; small = small-of n es true (negated n p) d o }
+
+-- ---- by the first bit: the size is the pattern or its negative, and the bit is the sign
+module _ {n p m P size : ℕ} (es : ℕ) (wide : 2 ≤ n) (u : p < 2 ^ n) (f : FirstBit n p m) (some : p ≢ 0) (half : P ≡ nar n) (finite : p ≢ P) (e : size ≡ chosenBy m p (negated n p)) where
+  one : 1 ≤ n
+  one = omega (arith, wide)
+
+  not-nar : p ≢ nar n
+  not-nar z = finite (z ∙ sym half)
+
+  above-nar : nar n ≤ p → nar n < p
+  above-nar h = omega (arith, h, not-nar)
+
+  pub size-is-positive : (0 < size) × (size < nar n)
+  size-is-positive = go f
+    where
+      go : FirstBit n p m → (0 < size) × (size < nar n)
+      go (clear z h) = rw (first-of m (negated n p) e z) (omega (arith, some), h)
+      go (set z h) =
+          rw (second-of m p e z ∙ negated-positive n (omega (arith, some)) u)
+          (omega (arith, u), omega (arith, above-nar h, nar-is-half n one))
+
+  pub unpacks-by-bit : (d : Decoded) → Odd n es (ltb P p) size d → Unpacks n es p d
+  unpacks-by-bit d o = go f
+    where
+      placed : {negative : Bool} {x : ℕ} → ltb (nar n) p ≡ negative → size ≡ x → Odd n es negative x d
+      placed a b = subst₂ (λ (negative : Bool) (x : ℕ). Odd n es negative x d) (ap (λ (y : ℕ). ltb y p) half ∙ a) b o
+
+      go : FirstBit n p m → Unpacks n es p d
+      go (clear z h) = unpacks-below es d one some h (placed (le-ltb (nar n) p (omega (arith, h))) (first-of m (negated n p) e z))
+      go (set z h) = unpacks-above es d one (above-nar h) u (placed (lt-ltb (nar n) p (above-nar h)) (second-of m p e z))

@@ -6,7 +6,8 @@ ghost use Rattle.posit.specs.Parts.{roundedOf, withSign};
 use super::power::negated;
 use super::power::power32;
 
-// The posit that a magnitude above 0 is rounded to, from its floor among the patterns one bit longer and whether that is exact.
+// The posit that a magnitude above 0 is rounded to, from its floor among the patterns one bit longer and whether that is exact: from an odd
+// floor up, unless the magnitude is on it and the lower posit is even. No jump depends on which it is.
 pub fn rounded(n: u32, floor: u32, exact: bool) -> u32
     requires { ⌜ (3 ≤ n) × (n ≤ 16) × (floor < 2 ^ n) ⌝ }
     ensures { λ r. ⌜ r ≡ roundedOf n floor exact ⌝ }
@@ -15,16 +16,11 @@ pub fn rounded(n: u32, floor: u32, exact: bool) -> u32
     if half == 0 {
         return 1;
     }
-    if floor % 2 == 0 {
-        return half;
-    }
     if half == power32(n - 1) - 1 {
         return half;
     }
-    if exact {
-        return half + half % 2;
-    }
-    half + 1
+    let stays = exact as u32 * (1 - half % 2);
+    half + floor % 2 * (1 - stays)
 }
 
 // The posit p, or its negative.

@@ -7,6 +7,7 @@ ghost use Rattle.posit.specs.Format.{Format};
 ghost use Rattle.posit.specs.Parts.{TailParts, PartsOf, Odd};
 ghost use Rattle.posit.specs.Magnitudes.{Unpacks};
 use super::super::decoded::Decoded;
+use super::choose::chosen;
 use super::power::highest_bit;
 use super::power::negated;
 use super::power::power32;
@@ -32,43 +33,24 @@ fn tail_apart(es: u32, regime: u32, w: u32, tail: u32) -> Parts
     }
 }
 
-// The parts of a pattern of b bits that begins with a run of zeros.
-fn zeros_apart(b: u32, es: u32, p: u32) -> Parts
-    requires { ⌜ (2 ≤ b) × (b ≤ 15) × (es ≤ 2) × (0 < p) × (p < 2 ^ (b - 1)) ⌝ }
+// The parts of a pattern p of b bits that is not 0, without a jump on its run: of zeros the highest set bit closes it, of ones the highest
+// that is missing; where none is, all bits are the run.
+pub fn take_apart(b: u32, es: u32, p: u32) -> Parts
+    requires { ⌜ (2 ≤ b) × (b ≤ 15) × (es ≤ 2) × (0 < p) × (p < 2 ^ b) ⌝ }
     ensures { λ r. ⌜ PartsOf b es p r ⌝ }
 {
-    let w = highest_bit(p as u64);
-    tail_apart(es, w, w, p - power32(w))
-}
-
-// The parts of a pattern of b bits that begins with a run of ones.
-fn ones_apart(b: u32, es: u32, p: u32) -> Parts
-    requires { ⌜ (2 ≤ b) × (b ≤ 15) × (es ≤ 2) × (2 ^ (b - 1) ≤ p) × (p < 2 ^ b) ⌝ }
-    ensures { λ r. ⌜ PartsOf b es p r ⌝ }
-{
-    let all = power32(b);
-    let missing = all - 1 - p;
-    if missing == 0 {
+    let ones = p / power32(b - 1);
+    let run = chosen(ones, p, power32(b) - 1 - p);
+    if run == 0 {
         return Parts {
             scale: 2 * ((b - 1) * power32(es)),
             bits: 0,
             significand: 1,
         };
     }
-    let w = highest_bit(missing as u64);
-    tail_apart(es, 2 * b - 3 - w, w, p + 2 * power32(w) - all)
-}
-
-// The parts of a pattern p of b bits that is not 0.
-pub fn take_apart(b: u32, es: u32, p: u32) -> Parts
-    requires { ⌜ (2 ≤ b) × (b ≤ 15) × (es ≤ 2) × (0 < p) × (p < 2 ^ b) ⌝ }
-    ensures { λ r. ⌜ PartsOf b es p r ⌝ }
-{
-    if p < power32(b - 1) {
-        zeros_apart(b, es, p)
-    } else {
-        ones_apart(b, es, p)
-    }
+    let w = highest_bit(run as u64);
+    let regime = chosen(ones, w, 2 * b - 3 - w);
+    tail_apart(es, regime, w, p % power32(w))
 }
 
 // The decoded form of a magnitude p with a sign: an odd fraction and its scale.
@@ -97,9 +79,6 @@ pub fn unpack(n: u32, es: u32, p: u32) -> Decoded
     if p == nar {
         return Decoded::Nar;
     }
-    if p < nar {
-        odd_form(n, es, false, p)
-    } else {
-        odd_form(n, es, true, negated(n, p))
-    }
+    let size = chosen(p / nar, p, negated(n, p));
+    odd_form(n, es, nar < p, size)
 }
