@@ -62,3 +62,13 @@ holds (ranges op a b c) = eqb (answerOf width exponentSize op a b) c
 abbrev pub all : List Case → Bool
 all [] = true
 all (c ∷ cs) = holds c && all cs
+
+-- ---- the ranges of document 01's comparison: (1,2), [1,2] and [2,3]
+abbrev pub openOneTwo : ℕ
+openOneTwo = word (open-end 0x40) (open-end 0x48)
+
+abbrev pub oneTwo : ℕ
+oneTwo = word (closed 0x40) (closed 0x48)
+
+abbrev pub twoThree : ℕ
+twoThree = word (closed 0x48) (closed 0x4c)
