@@ -8,7 +8,6 @@ use lib.IntN.{pos}
 use lib.Dec.{leb}
 use borrow.Author.Tests.{le-leb, leb-true}
 use Rattle.exact.specs.Fraction.{whole}
-use Rattle.exact.proofs.Order.{≈-refl}
 use Rattle.posit.specs.Format.{Format}
 use Rattle.posit.proofs.Exactly.{never}
 use Rattle.range.specs.declared.inner.span.Span.{Span}
@@ -17,7 +16,7 @@ use Rattle.range.specs.Spans.{cellsOf}
 use Rattle.range.specs.Signs.{zeroCell, hasZero}
 use Rattle.range.proofs.Members.{member-cells, is-member}
 use Rattle.range.proofs.Computed.{cell-computed}
-use Rattle.range.proofs.SumCells.{cell-of-zero}
+use Rattle.range.proofs.ZeroCell.{cell-of-zero}
 
 by-test : {P Q : Type 0} (b : Bool) → (b ≡ true) ↔ P → P ↔ Q → (c : Bool) → (c ≡ true → Q) → (Q → c ≡ true) → c ≡ b
 by-test true i j true f g = refl
@@ -32,7 +31,7 @@ both-true false b e = never e
 module _ {n es b : ℕ} (f : Format n es) (r : Real n b) {x : Span} (e : x ≡ cellsOf n b) where
   zero-cells : Member n es b (whole (pos 0)) ↔ ((x .lo ≤ zeroCell n) × (zeroCell n ≤ x .hi))
   zero-cells =
-      let z = cell-of-zero n es (f .wide-enough) {z = whole (pos 0)} (≈-refl (whole (pos 0))) in
+      let z = cell-of-zero n es (f .wide-enough) in
       let c = cell-computed n es (f .wide-enough) (whole (pos 0)) in
       let (i, j) = member-cells n es (f .wide-enough) r (whole (pos 0)) in
       rw e (λ m. let k = i m in (omega (arith, k, z, c), omega (arith, k, z, c)), λ k. j (omega (arith, k, z, c), omega (arith, k, z, c)))

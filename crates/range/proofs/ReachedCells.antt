@@ -20,7 +20,7 @@ use Rattle.range.specs.OneSign.{hasOneSign}
 use Rattle.range.proofs.Grid.{half, nar-positive, pattern-high}
 use Rattle.range.proofs.Places.{top-cell}
 use Rattle.range.proofs.Mirrored.{mirrored-some, mirrored-none}
-use Rattle.range.proofs.ResultCell.{cell-fits}
+use Rattle.range.proofs.CellFrom.{cell-bounded}
 
 module _ (n : ℕ) (wide : 3 ≤ n) where
   -- ---- limits
@@ -112,12 +112,12 @@ module _ (n : ℕ) (wide : 3 ≤ n) where
     first-there : (divide : Bool) (x y : Edge) → firstCell n es divide x y ≤ topCell n
     first-there divide x y =
         first-picked (x .unlimited || y .unlimited) (x .closed && y .closed) (resultCell n es divide (x .posit) (y .posit))
-        (cell-fits n es wide (resultOf divide (value n es (x .posit)) (value n es (y .posit))))
+        (cell-bounded n es wide (resultOf divide (value n es (x .posit)) (value n es (y .posit))))
 
     last-there : (divide : Bool) (x y : Edge) → lastCell n es divide x y ≤ topCell n
     last-there divide x y =
         last-picked (x .unlimited || y .unlimited) (x .closed && y .closed) (resultCell n es divide (x .posit) (y .posit))
-        (cell-fits n es wide (resultOf divide (value n es (x .posit)) (value n es (y .posit))))
+        (cell-bounded n es wide (resultOf divide (value n es (x .posit)) (value n es (y .posit))))
 
     -- the first cell of some results is there
     pub some-first : (divide : Bool) (p q : Span) → positiveSome n es divide p q .lo ≤ topCell n

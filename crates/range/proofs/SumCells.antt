@@ -10,7 +10,7 @@ use lib.Dec.{leb}
 use mir.Val.{boolByte}
 use borrow.Author.Tests.{le-leb, lt-leb}
 use Rattle.exact.specs.Fraction.{Fraction, _≈_, whole, _+ᶠ_}
-use Rattle.exact.proofs.Order.{≈-refl, ≈-sym, ≈-trans, _⨾_}
+use Rattle.exact.proofs.Order.{≈-refl, _⨾_}
 use Rattle.exact.proofs.Sum.{+ᶠ-cong, +ᶠ-idl, +ᶠ-idr, negᶠ-cong}
 use Rattle.exact.proofs.Powers.{parity}
 use Rattle.bound.specs.Bound.{Bound, none, closed-at, open-at, map-bound}
@@ -27,7 +27,7 @@ use Rattle.posit.specs.Parts.{chosenBy}
 use Rattle.posit.specs.Normals.{normalValue, NormalOf}
 use Rattle.posit.specs.Value.{value}
 use Rattle.posit.specs.Magnitudes.{withSignᶠ, Knows, IsSum}
-use Rattle.posit.proofs.Patterns.{some-bit, nar-large, small-finite}
+use Rattle.posit.proofs.Patterns.{some-bit}
 use Rattle.posit.proofs.Operated.{zero-value}
 use Rattle.posit.proofs.Summed.{sign-twice}
 use Rattle.posit.proofs.Mirror.{nar-is-half, power-wider, Side, below, above, side, negated-positive, value-above}
@@ -36,10 +36,11 @@ use Rattle.range.specs.Numbered.{count, patternAt, numberOf, valueAt}
 use Rattle.range.specs.Spans.{topCell}
 use Rattle.range.specs.Computed.{cellOf}
 use Rattle.range.specs.Cells.{CellEach, SignedOf, sumStart, sumEnd}
-use Rattle.range.proofs.Grid.{half, nar-positive, number-below, pattern-finite}
+use Rattle.range.proofs.Grid.{half, pattern-finite}
 use Rattle.range.proofs.Places.{top-cell}
 use Rattle.range.proofs.Tiles.{half-small}
 use Rattle.range.proofs.CellFrom.{cell-bounded, cell-same, cell-of-posit}
+use Rattle.range.proofs.ZeroCell.{cell-of-nought}
 
 -- ---- a posit with its sign apart
 module _ {n es p half turned : ℕ} (f : Format n es) (g : Spec.Finite n p) (more : 0 < p) (is-half : half ≡ Spec.nar n) (is-turned : turned ≡ Spec.negated n p) where
@@ -74,14 +75,9 @@ module _ {n es p half turned : ℕ} (f : Format n es) (g : Spec.Finite n p) (mor
 
 -- ---- the cell of an exact sum
 module _ (n es : ℕ) (wide : 3 ≤ n) where
-  pub cell-of-zero : {z : Fraction} → z ≈ whole (pos 0) → cellOf n es z ≡ 2 ^ n - 1
-  cell-of-zero e =
-      cell-of-posit n es wide (small-finite n wide {p = 0} (omega arith)) (≈-trans e (≈-sym (zero-value n es refl)))
-      ∙ omega (arith, number-below n (some-bit n wide) {p = 0} (nar-positive n (some-bit n wide)), half n (some-bit n wide), nar-large n wide)
-
   module _ (z : Fraction) {r : Sum} (k : IsSum z r) where
     pub nothing-cell : {all : ℕ} → r ≡ Nothing → all ≡ 2 ^ n → all - 1 ≡ cellOf n es z
-    nothing-cell e h = omega (arith, cell-of-zero (subst (λ r. IsSum z r) e k))
+    nothing-cell e h = omega (arith, cell-of-nought n es wide (subst (λ r. IsSum z r) e k))
 
     pub something-cell : {b : Bool} {m : Magnitude} {c : ℕ} → r ≡ Something b m → CellEach n es b m c → c ≡ cellOf n es z
     something-cell {b} {m} e each =

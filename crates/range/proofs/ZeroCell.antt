@@ -19,6 +19,7 @@ use Rattle.range.specs.Computed.{cellOf}
 use Rattle.range.specs.Signs.{zeroCell}
 use Rattle.range.proofs.Grid.{posits, number-below, number-fits, value-of-number, nar-positive}
 use Rattle.range.proofs.Computed.{cell-of-is}
+use Rattle.range.proofs.CellFrom.{cell-same}
 
 module _ (n es : ℕ) (wide : 3 ≤ n) where
   pub even : 2 ^ n ≡ 2 * nar n
@@ -43,6 +44,9 @@ module _ (n es : ℕ) (wide : 3 ≤ n) where
 
   pub cell-of-zero : cellOf n es (whole (pos 0)) ≡ zeroCell n
   cell-of-zero = cell-of-is n es wide zero-in-cell
+
+  pub cell-of-nought : {z : Fraction} → z ≈ whole (pos 0) → cellOf n es z ≡ zeroCell n
+  cell-of-nought e = cell-same n es wide e ∙ cell-of-zero
 
   -- ---- the numbers above 0
   pub above-zero : {x : Fraction} → Less fractions (whole (pos 0)) x → 2 ^ n ≤ cell (posits n es wide) x

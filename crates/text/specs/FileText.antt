@@ -1,14 +1,15 @@
 -- The text of a sheet file: what `sheetrows` prints for the bytes that arrived.
 use mathlib.Core.Path.{_≡_}
 use mathlib.Core.List.{List, _++_}
-use Prim.Native.Nat.{ℕ}
+use Prim.Native.Nat.{ℕ, _+_}
 use lib.ListN.{length, drop}
+use Rattle.sheet.specs.Refusal.{mostInputs, mostSteps}
 use Rattle.sheet.specs.File.{widthOf, verdictOfFile, rowsOfFile}
 use Rattle.text.specs.Text.{textOf}
 
--- 32 inputs and 64 steps
+-- room for the longest sheet
 abbrev pub mostRows : ℕ
-mostRows = 96
+mostRows = mostInputs + mostSteps
 
 unfoldable pub textOfFile : List ℕ → List ℕ
 textOfFile file = let v = verdictOfFile file mostRows in textOf (widthOf file) (v .number) (v .place) (rowsOfFile file)
