@@ -5,7 +5,7 @@ use Prim.Native.Nat.{ℕ, _+_, _-_, _*_, _^_, _≤_, _<_}
 use native.Mathlib.Nat.{mul-le-mul}
 use native.Mathlib.Omega.{arith}
 use lib.IntN.{ℤ, pos}
-use lib.Pow.{pow-mono, pow-add}
+use lib.Pow.{pow-add}
 use mir.Syntax.{w64}
 use mir.Val.{Fits}
 use Rattle.exact.specs.Fraction.{_≈_, overPower, _*ᶠ_}
@@ -14,8 +14,6 @@ use Rattle.exact.proofs.Product.{*ᶠ-cong}
 use Rattle.exact.proofs.OverPower.{overPower-*ᶠ, overPower-pos-≈}
 use Rattle.posit.specs.Locating.{given}
 use Rattle.posit.specs.Magnitudes.{SmallForm, ProductOf}
-use Rattle.posit.specs.declared.inner.normal.Normal.{Normal}
-use Rattle.posit.specs.Normals.{IsNormal, normalBits, normalValue, NormalProduct}
 use Rattle.posit.proofs.SmallScale.{lifted, lifted-most}
 use Rattle.posit.proofs.Exactly.{known-exactly, in-units}
 
@@ -57,34 +55,4 @@ module _ {s t : ℤ} {g h : ℕ} (x : SmallForm s g) (y : SmallForm t h) where
         within =
             known-exactly (g * h * 2 ^ 32) (lifted s + lifted t) 144
             (≈-trans (*ᶠ-cong (in-units x) (in-units y)) (product-is g h (lifted s) (lifted t) 56 32));
-      }
-
--- ---- in normal form, with no bits below
-module _ (es : ℕ) {x y : Normal} (o : IsNormal x) (q : IsNormal y) where
-  normal-product-is : (normalValue es x *ᶠ normalValue es y) ≈ given (x .g * y .g) (x .e + y .e) (58 + 32 * 2 ^ es)
-  normal-product-is =
-      let k = normalBits es in
-      let bits : 58 + 32 * 2 ^ es ≡ k + k = omega arith in
-      rw bits
-      (≈-trans (overPower-*ᶠ k k (pos (x .g * 2 ^ x .e)) (pos (y .g * 2 ^ y .e)))
-      (overPower-pos-≈ (k + k) (k + k) .1 (rw (pow-add 2 (x .e) (y .e)) (omega arith))))
-
-  normal-product-least : 2 ^ 58 ≤ x .g * y .g
-  normal-product-least = mul-le-mul {n₁ = 2 ^ 29} {m₁ = 2 ^ 29} (o .at-least) (q .at-least)
-
-  pub normal-product-less : x .g * y .g < 2 ^ 60
-  normal-product-less =
-      omega (arith, mul-le-mul {n₁ = x .g} {m₁ = y .g} {n₂ = 2 ^ 30 - 1} {m₂ = 2 ^ 30 - 1} (omega (arith, o .less)) (omega (arith, q .less)))
-
-  pub normal-product-known : es ≤ 2 → NormalProduct es x y (record { g = x .g * y .g; s = x .e + y .e; a = 58 + 32 * 2 ^ es; lost = false })
-  normal-product-known few =
-      record {
-        words =
-            record {
-              enough = omega (arith, normal-product-least);
-              not-too-many = omega (arith, normal-product-less);
-              scale-up = omega (arith, o .scale-fits, q .scale-fits);
-              scale-down = omega (arith, pow-mono {i = es} {j = 2} few);
-            };
-        within = known-exactly (x .g * y .g) (x .e + y .e) (58 + 32 * 2 ^ es) normal-product-is;
       }

@@ -19,8 +19,6 @@ use Rattle.exact.proofs.Quotient.{/ᶠ-≤ᶠ, ≤ᶠ-/ᶠ, /ᶠ-<ᶠ, <ᶠ-/�
 use Rattle.exact.proofs.OverPower.{overPower-*ᶠ, overPower-pos-≤ᶠ, overPower-pos-<ᶠ}
 use Rattle.posit.specs.Locating.{given}
 use Rattle.posit.specs.Magnitudes.{SmallForm, Within, QuotientOf}
-use Rattle.posit.specs.declared.inner.normal.Normal.{Normal}
-use Rattle.posit.specs.Normals.{IsNormal, normalBits, NormalQuotient}
 use Rattle.posit.proofs.SmallScale.{lifted, lifted-most}
 use Rattle.posit.proofs.Exactly.{within-respects, in-units}
 
@@ -96,8 +94,8 @@ module _ (g h e d j k : ℕ) where
     unfolding rest
     rest-less = mod-lt (g * 2 ^ j) some
 
-    quotient-within : Within (x /ᶠ y) (record { g = quotient; s = e; a = d + j; lost = not (eqb rest 0) })
-    quotient-within =
+    within-parts : Within (x /ᶠ y) (record { g = quotient; s = e; a = d + j; lost = not (eqb rest 0) })
+    within-parts =
         record {
           at-least = at-most-quotient some quotient (omega (arith, split));
           less = above-quotient some (quotient + 1) (omega (arith, split, rest-less));
@@ -111,6 +109,10 @@ module _ (g h e d j k : ℕ) where
         less : (rest ≡ 0 → ⊥) → quotient * h < g * 2 ^ j
         less n = omega (arith, split)
 
+    pub quotient-within : Within (x /ᶠ y) (record { g = g * 2 ^ j / h; s = e; a = d + j; lost = not (eqb (g * 2 ^ j % h) 0) })
+    unfolding quotient rest
+    quotient-within = within-parts
+
 -- ---- sizes
 module _ {s t : ℤ} {g h : ℕ} (x : SmallForm s g) (y : SmallForm t h) where
   pub scale-fits : Fits w64 (lifted t + 47)
@@ -123,7 +125,6 @@ module _ {s t : ℤ} {g h : ℕ} (x : SmallForm s g) (y : SmallForm t h) where
   not-too-many = omega (arith, x .few, div-le-self (g * 2 ^ 47) h)
 
   pub quotient-known : QuotientOf s g t h (record { g = g * 2 ^ 47 / h; s = lifted s; a = lifted t + 47; lost = not (eqb (g * 2 ^ 47 % h) 0) })
-  unfolding quotient rest
   quotient-known =
       record {
         words =
@@ -134,28 +135,4 @@ module _ {s t : ℤ} {g h : ℕ} (x : SmallForm s g) (y : SmallForm t h) where
               scale-down = omega (arith, lifted-most y);
             };
         within = within-respects (≈-sym (/ᶠ-cong (in-units x) (in-units y))) (quotient-within g h (lifted s) (lifted t) 47 56 (y .some));
-      }
-
--- ---- in normal form
-module _ (es : ℕ) {x y : Normal} (o : IsNormal x) (q : IsNormal y) where
-  normal-enough : 2 ^ 29 ≤ x .g * 2 ^ 30 / y .g
-  normal-enough = le-div-iff-mul-le {k = y .g} {x = 2 ^ 29} {y = x .g * 2 ^ 30} (omega (arith, q .at-least)) .1 (omega (arith, o .at-least, q .less))
-
-  normal-not-too-many : x .g * 2 ^ 30 / y .g < 2 ^ 60
-  normal-not-too-many = omega (arith, o .less, div-le-self (x .g * 2 ^ 30) (y .g))
-
-  pub normal-quotient-known :
-      NormalQuotient es x y
-      (record { g = x .g * 2 ^ 30 / y .g; s = x .e; a = y .e + 30; lost = not (eqb (x .g * 2 ^ 30 % y .g) 0) })
-  unfolding quotient rest
-  normal-quotient-known =
-      record {
-        words =
-            record {
-              enough = omega (arith, normal-enough);
-              not-too-many = omega (arith, normal-not-too-many);
-              scale-up = omega (arith, o .scale-fits);
-              scale-down = omega (arith, q .scale-fits);
-            };
-        within = quotient-within (x .g) (y .g) (x .e) (y .e) 30 (normalBits es) (omega (arith, q .at-least));
       }

@@ -35,7 +35,6 @@ pub mod Apart
 pub mod SmallForm
 pub mod SmallScale
 pub mod Exactly
-pub mod NormalForm
 pub mod KnownProduct
 pub mod KnownQuotient
 pub mod RoundKnown
@@ -49,9 +48,6 @@ pub mod TwoWords
 pub mod KnownWide
 pub mod Summed
 pub mod Added
-pub mod Alignment
-pub mod OneWord
-pub mod NormalSummed
 pub mod Calls
 pub mod Operations
 pub mod ScalePlace

@@ -13,5 +13,3 @@ pub mod Locating
 pub mod Operation
 pub mod Magnitudes
 pub mod Floats
-pub mod Normals
-pub mod Aligning

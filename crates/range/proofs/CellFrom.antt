@@ -1,5 +1,5 @@
--- The cell of an exact number above 0 from its floor among the patterns one bit longer: half of the floor is the posit at or below the number, and
--- the number is that posit itself exactly where the floor is even and met.
+-- The cell of an exact number above 0 from its step among the posits, or from its floor among the patterns one bit longer: half of either is the posit
+-- at or below the number, and the number is that posit itself exactly where the step is even, or the floor is even and met.
 use mathlib.Core.Path.{_≡_, refl, sym, ap, _∙_}
 use mathlib.Core.Bool.{Bool, true, false, not, _&&_}
 use mathlib.Core.Logic.{_⊎_, inl, inr}
@@ -28,6 +28,7 @@ use Rattle.posit.proofs.Floor.{Floor}
 use Rattle.posit.proofs.Located.{floor-cut}
 use Rattle.posit.proofs.RoundKnown.{pattern-fits}
 use Rattle.posit.proofs.Exactly.{next-given, never}
+use Rattle.code.specs.Step.{IsStep}
 use Rattle.range.specs.Numbered.{count, numberOf, valueAt}
 use Rattle.range.specs.Spans.{topCell}
 use Rattle.range.specs.Computed.{cellOf}
@@ -73,50 +74,73 @@ from-met n L e = rw e (omega arith)
 pub from-missed : (n L : ℕ) → L % 2 ≡ 0 → cellFrom n L false ≡ 2 ^ n - 1 + L + 1
 from-missed n L e = rw e
 
-module _ (n es : ℕ) (wide : 3 ≤ n) {x : Fraction} {L : ℕ} (f : IsFloor (n + 1) es x L) where
+module _ (n es : ℕ) (wide : 3 ≤ n) {x : Fraction} {q : ℕ} (f : Floor n es x (maxPos n) q) where
   one : 1 ≤ n
   one = some-bit n wide
 
+  there : q < nar n
+  there = omega (arith, f .at-most, nar-large n wide)
+
+  finite : Finite n q
+  finite = small-finite n wide (f .at-most)
+
+  -- the number is the posit
+  cell-on : x ≈ value n es q → cellOf n es x ≡ 2 ^ n - 1 + 2 * q
+  cell-on e = cell-of-posit n es wide finite e ∙ omega (arith, number-below n one there, half n one, nar-large n wide)
+
+  -- the number lies in the gap above it
+  cell-above : value n es q <ᶠ x → cellOf n es x ≡ 2 ^ n + 2 * q
+  cell-above more =
+      cell-of-is n es wide
+      (gap-cell (posits n es wide) (q + nar n) (omega (arith, half n one, there)) low high)
+      ∙ omega (arith, half n one)
+    where
+      number : numberOf n q + 1 ≡ q + nar n
+      number = omega (arith, number-below n one there, nar-large n wide)
+
+      low : (j : ℕ) → j < q + nar n → Less fractions (valueAt n es j) x
+      low j h =
+          clashᶠ
+          (≤ᶠ-<ᶠ-trans
+          (rw (value-of-number n es one finite) at (value-order (posits n es wide) j (numberOf n q) (omega (arith, number, half n one, there)) (omega (arith, number, half n one, there)) .1 (omega (arith, number))))
+          more)
+
+      high : (j : ℕ) → q + nar n ≤ j → j < count n → Less fractions x (valueAt n es j)
+      high j h u =
+          let g : Finite n (q + 1) = small-finite n wide (omega (arith, half n one, nar-large n wide)) in
+          let i : numberOf n (q + 1) ≡ q + nar n = number-below n one {p = q + 1} (omega (arith, half n one)) ∙ omega (arith, nar-large n wide) in
+          clashᶠ
+          (<ᶠ-≤ᶠ-trans (f .not-next (omega (arith, half n one, nar-large n wide)))
+          (rw (value-of-number n es one g) at (value-order (posits n es wide) (numberOf n (q + 1)) j (omega (arith, i, half n one)) u .1 (omega (arith, i)))))
+
+-- ---- from a step
+module _ {n es : ℕ} (wide : 3 ≤ n) {x : Fraction} {r : ℕ} (s : IsStep n es x r) where
+  step-floor : Floor n es x (maxPos n) (r / 2)
+  step-floor = record { at-most = omega (arith, s .floor .fits); reached = s .floor .at-most; not-next = λ h. s .floor .next-above (omega arith) }
+
+  pub step-fits : r < 2 ^ n
+  step-fits = omega (arith, s .floor .fits, nar-is-half n (some-bit n wide))
+
+  pub cell-of-step : cellOf n es x ≡ 2 ^ n - 1 + r
+  cell-of-step = by (parity r)
+    where
+      by : (r % 2 ≡ 0) ⊎ (r % 2 ≡ 1) → cellOf n es x ≡ 2 ^ n - 1 + r
+      by (inl e) = cell-on n es wide step-floor (s .on-it e) ∙ omega arith
+      by (inr e) = cell-above n es wide step-floor (s .beyond e) ∙ omega (arith, pow-pos n)
+
+-- ---- from the floor among the patterns one bit longer
+module _ (n es : ℕ) (wide : 3 ≤ n) {x : Fraction} {L : ℕ} (f : IsFloor (n + 1) es x L) where
   cut : Floor n es x (maxPos n) (L / 2)
   cut = floor-cut n es wide (record { at-most = omega (arith, f .fits); reached = f .at-most; not-next = λ h. f .next-above (omega arith) })
-
-  half-there : L / 2 < nar n
-  half-there = omega (arith, cut .at-most, nar-large n wide)
 
   half-finite : Finite n (L / 2)
   half-finite = small-finite n wide (cut .at-most)
 
-  -- the number is the posit
   on-posit : L % 2 ≡ 0 → x ≈ value (n + 1) es L → cellOf n es x ≡ 2 ^ n - 1 + L
   on-posit e s =
       let d : 2 * (L / 2) ≡ L = omega arith in
       let v : value (n + 1) es L ≈ value n es (L / 2) = rw d at (value-wider n es (L / 2) (two-bits n wide) half-finite) in
-      cell-of-posit n es wide half-finite (≈-trans s v) ∙ omega (arith, number-below n one half-there, half n one, nar-large n wide)
-
-  -- the number lies in the gap above it
-  in-gap : value n es (L / 2) <ᶠ x → cellOf n es x ≡ 2 ^ n + 2 * (L / 2)
-  in-gap more =
-      cell-of-is n es wide
-      (gap-cell (posits n es wide) (L / 2 + nar n) (omega (arith, half n one, half-there)) low high)
-      ∙ omega (arith, half n one)
-    where
-      number : numberOf n (L / 2) + 1 ≡ L / 2 + nar n
-      number = omega (arith, number-below n one half-there, nar-large n wide)
-
-      low : (j : ℕ) → j < L / 2 + nar n → Less fractions (valueAt n es j) x
-      low j h =
-          clashᶠ
-          (≤ᶠ-<ᶠ-trans
-          (rw (value-of-number n es one half-finite) at (value-order (posits n es wide) j (numberOf n (L / 2)) (omega (arith, number, half n one, half-there)) (omega (arith, number, half n one, half-there)) .1 (omega (arith, number))))
-          more)
-
-      high : (j : ℕ) → L / 2 + nar n ≤ j → j < count n → Less fractions x (valueAt n es j)
-      high j h u =
-          let g : Finite n (L / 2 + 1) = small-finite n wide (omega (arith, half n one, nar-large n wide)) in
-          let i : numberOf n (L / 2 + 1) ≡ L / 2 + nar n = number-below n one {p = L / 2 + 1} (omega (arith, half n one)) ∙ omega (arith, nar-large n wide) in
-          clashᶠ
-          (<ᶠ-≤ᶠ-trans (cut .not-next (omega (arith, half n one, nar-large n wide)))
-          (rw (value-of-number n es one g) at (value-order (posits n es wide) (numberOf n (L / 2 + 1)) j (omega (arith, i, half n one)) u .1 (omega (arith, i)))))
+      cell-on n es wide cut (≈-trans s v) ∙ ap (λ (k : ℕ). 2 ^ n - 1 + k) d
 
   above-odd : L % 2 ≡ 1 → value n es (L / 2) <ᶠ x
   above-odd e =
@@ -133,9 +157,9 @@ module _ (n es : ℕ) (wide : 3 ≤ n) {x : Fraction} {L : ℕ} (f : IsFloor (n 
   cell-from-floor {exact} hit miss = by exact refl (parity L)
     where
       by : (b : Bool) → exact ≡ b → (L % 2 ≡ 0) ⊎ (L % 2 ≡ 1) → cellFrom n L exact ≡ cellOf n es x
-      by b e (inr o) = from-odd n L exact o ∙ omega (arith, in-gap (above-odd o), pow-pos n)
+      by b e (inr o) = from-odd n L exact o ∙ omega (arith, cell-above n es wide cut (above-odd o), pow-pos n)
       by true e (inl z) = rw e (from-met n L z ∙ sym (on-posit z (hit e)))
-      by false e (inl z) = rw e (from-missed n L z ∙ omega (arith, in-gap (above-missed z (miss e)), pow-pos n))
+      by false e (inl z) = rw e (from-missed n L z ∙ omega (arith, cell-above n es wide cut (above-missed z (miss e)), pow-pos n))
 
 -- ---- the cell of a known magnitude
 and-false : (b : Bool) → (b && false) ≡ false

@@ -43,3 +43,6 @@ pub mod FloatOrder
 pub mod Readings
 pub mod GoingOut
 pub mod Ends
+pub mod Mixed
+pub mod PlainCells
+pub mod PlainResults

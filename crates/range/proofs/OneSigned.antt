@@ -15,18 +15,18 @@ use Rattle.range.proofs.Mirrored.{mirrored-some}
 use Rattle.range.proofs.ReachedCells.{none-cells, turned-cells, some-cells, some-first, positive-cells, either-cells, signed-cells}
 
 -- which sign the members have
-data Side (n : ℕ) (s : Span) : Type 0 where
+pub data Side (n : ℕ) (s : Span) : Type 0 where
   above : isAbove n s ≡ true → 2 ^ n ≤ s .lo → Side n s
   below : isAbove n s ≡ false → s .hi < zeroCell n → Side n s
 
-side : (n : ℕ) (s : Span) → hasOneSign n s ≡ true → Side n s
+pub side : (n : ℕ) (s : Span) → hasOneSign n s ≡ true → Side n s
 side n s h = go (isAbove n s) refl h
   where
     go : (b : Bool) → isAbove n s ≡ b → (b || ltb (s .hi) (zeroCell n)) ≡ true → Side n s
     go true e k = above e (leb-true (2 ^ n) (s .lo) e)
     go false e k = below e (ltb-true (s .hi) (zeroCell n) k)
 
-same-span : {s t : Span} → s .lo ≡ t .lo → s .hi ≡ t .hi → s ≡ t
+pub same-span : {s t : Span} → s .lo ≡ t .lo → s .hi ≡ t .hi → s ≡ t
 same-span e f i = record { lo = e i; hi = f i }
 
 pub above-magnitudes : (n : ℕ) (s : Span) → isAbove n s ≡ true → magnitudes n s ≡ s
@@ -51,16 +51,16 @@ module _ (n : ℕ) (wide : 3 ≤ n) where
 
   -- ---- the parts of members of one sign, and their magnitudes
   module _ {s : Span} (o : OneSign n s) where
-    above-part : 2 ^ n ≤ s .lo → partAbove n s ≡ s
+    pub above-part : 2 ^ n ≤ s .lo → partAbove n s ≡ s
     above-part l = rw (le-ltb (s .hi) (2 ^ n) (omega (arith, l, o .some))) (same-span (omega (arith, l)) refl)
 
-    below-none : s .hi < zeroCell n → partAbove n s ≡ noCells n
+    pub below-none : s .hi < zeroCell n → partAbove n s ≡ noCells n
     below-none l = rw (lt-ltb (s .hi) (2 ^ n) (omega (arith, l)))
 
-    above-none : 2 ^ n ≤ s .lo → partAbove n (mirrored n s) ≡ noCells n
+    pub above-none : 2 ^ n ≤ s .lo → partAbove n (mirrored n s) ≡ noCells n
     above-none l = rw (mirrored-some n s (o .some), lt-ltb (topCell n - s .lo) (2 ^ n) (omega (arith, l, o .some, o .there, top-cell n wide, pow-pos n)))
 
-    below-part : s .hi < zeroCell n → partAbove n (mirrored n s) ≡ mirrored n s
+    pub below-part : s .hi < zeroCell n → partAbove n (mirrored n s) ≡ mirrored n s
     below-part l =
         rw (mirrored-some n s (o .some), le-ltb (topCell n - s .lo) (2 ^ n) (omega (arith, l, o .some, o .there, top-cell n wide)))
         (same-span (omega (arith, l, o .there, top-cell n wide)) refl)
@@ -86,7 +86,7 @@ module _ (n : ℕ) (wide : 3 ≤ n) where
               ordered = λ h. omega (arith, o .some);
             })
 
-    no-zero : hasZero n s ≡ false
+    pub no-zero : hasZero n s ≡ false
     no-zero = go (side n s (o .one-sign))
       where
         go : Side n s → hasZero n s ≡ false
@@ -130,16 +130,16 @@ module _ (n : ℕ) (wide : 3 ≤ n) where
         ap₂ hullOf (ap (λ s. withRight s y) e) (ap (λ s. turnedCells n (withRight s y)) f ∙ ap (turnedCells n) (neither (partAbove n y) (partAbove n (mirrored n y))) ∙ none-turned)
         ∙ hull-none (either-cells n wide es divide p (partAbove n y) (partAbove n (mirrored n y)))
 
-    left-below : (x y : Span) {p : Span} → partAbove n x ≡ noCells n → partAbove n (mirrored n x) ≡ p → signedResults n es divide x y ≡ turnedCells n (withRight p y)
+    pub left-below : (x y : Span) {p : Span} → partAbove n x ≡ noCells n → partAbove n (mirrored n x) ≡ p → signedResults n es divide x y ≡ turnedCells n (withRight p y)
     left-below x y {p} e f =
         ap₂ hullOf (ap (λ s. withRight s y) e ∙ neither (partAbove n y) (partAbove n (mirrored n y))) (ap (λ s. turnedCells n (withRight s y)) f)
         ∙ none-hull (turned-cells n wide (withRight p y))
 
     -- ---- and of a right one
-    right-above : (p : Span) {y : Span} → OneSign n y → 2 ^ n ≤ y .lo → withRight p y ≡ positiveResults n es divide p y
+    pub right-above : (p : Span) {y : Span} → OneSign n y → 2 ^ n ≤ y .lo → withRight p y ≡ positiveResults n es divide p y
     right-above p {y} o l = ap₂ (eitherSign n es divide p) (above-part o l) (above-none o l) ∙ only-above p y
 
-    right-below : (p : Span) {y : Span} → OneSign n y → y .hi < zeroCell n → withRight p y ≡ turnedCells n (positiveResults n es divide p (mirrored n y))
+    pub right-below : (p : Span) {y : Span} → OneSign n y → y .hi < zeroCell n → withRight p y ≡ turnedCells n (positiveResults n es divide p (mirrored n y))
     right-below p {y} o l = ap₂ (eitherSign n es divide p) (below-none o l) (below-part o l) ∙ only-below p (mirrored n y)
 
     module _ {x y : Span} (a : OneSign n x) (b : OneSign n y) where
@@ -202,11 +202,11 @@ both-hold {q = q} e t h = h ∙ ap (λ b. b && q) (sym t ∙ e)
 pub first-fails : {p r : Bool} (q : Bool) → r ≡ p → r ≡ false → r ≡ (p && q)
 first-fails q e f = f ∙ ap (λ b. b && q) (sym f ∙ e)
 
-first-of : (p q : Bool) → (p && q) ≡ true → p ≡ true
+pub first-of : (p q : Bool) → (p && q) ≡ true → p ≡ true
 first-of true q e = refl
 first-of false q e = e
 
-second-of : (p q : Bool) → (p && q) ≡ true → q ≡ true
+pub second-of : (p q : Bool) → (p && q) ≡ true → q ≡ true
 second-of true q e = e
 second-of false q e = absurd (true≢false (sym e))
 

@@ -1,28 +1,42 @@
--- The cell of the exact result of two posits is that of the result of their normal forms, as equal numbers have one cell.
-use mathlib.Core.Path.{_≡_, _∙_}
+-- The cell of the exact result of two posits is that of the result of their codes, as equal numbers have one cell.
+use mathlib.Core.Path.{_≡_, sym, _∙_}
 use mathlib.Core.Bool.{Bool, true, false}
-use Prim.Native.Nat.{ℕ, _≤_}
+use Prim.Native.Nat.{ℕ, _+_, _-_, _^_, _≤_, _<_}
 use native.Mathlib.Omega.{arith}
-use Rattle.exact.specs.Fraction.{_*ᶠ_, _/ᶠ_}
+use Rattle.exact.specs.Fraction.{Fraction, _≈_, _+ᶠ_, _*ᶠ_, _/ᶠ_}
+use Rattle.exact.proofs.Sum.{+ᶠ-cong}
 use Rattle.exact.proofs.Product.{*ᶠ-cong}
 use Rattle.exact.proofs.Quotient.{/ᶠ-cong}
-use Rattle.posit.specs.declared.inner.magnitude.Magnitude.{Magnitude}
-use Rattle.posit.specs.declared.inner.normal.Normal.{Normal}
 use Rattle.posit.specs.Format.{Format}
 use Rattle.posit.specs.Value.{value}
-use Rattle.posit.specs.Normals.{normalValue, NormalOf, NormalProduct, NormalQuotient}
 use Rattle.posit.proofs.Mirror.{power-wider}
-use Rattle.range.specs.Cells.{CellEach}
+use Rattle.code.specs.declared.inner.coded.Coded.{Coded}
+use Rattle.code.specs.Code.{codeValue, CodeOf}
+use Rattle.code.specs.Coded.{Codes}
+use Rattle.code.specs.Step.{StepOf}
+use Rattle.range.specs.Computed.{cellOf}
 use Rattle.range.specs.Signs.{resultOf, resultCell}
 use Rattle.range.proofs.Tiles.{half-small}
-use Rattle.range.proofs.CellFrom.{cell-bounded, cell-same}
+use Rattle.range.proofs.CellFrom.{cell-bounded, cell-same, step-fits, cell-of-step}
 
-module _ {n es p q : ℕ} (f : Format n es) {u v : Normal} (a : NormalOf n es p u) (b : NormalOf n es q v) {x : Magnitude} {r : ℕ} where
-  pub products-cell : NormalProduct es u v x → CellEach n es false x r → r ≡ resultCell n es false p q
-  products-cell k each = each (normalValue es u *ᶠ normalValue es v) (k .within) ∙ cell-same n es (f .wide-enough) (*ᶠ-cong (a .says) (b .says))
+-- ---- what a code knows has its step
+module _ {n es : ℕ} (f : Format n es) {z : Fraction} {x : Coded} (k : Codes es z x) {step : ℕ} (s : StepOf n es x step) where
+  pub known-fits : step < 2 ^ n
+  known-fits = step-fits (f .wide-enough) (s z k)
 
-  pub quotients-cell : NormalQuotient es u v x → CellEach n es false x r → r ≡ resultCell n es true p q
-  quotients-cell k each = each (normalValue es u /ᶠ normalValue es v) (k .within) ∙ cell-same n es (f .wide-enough) (/ᶠ-cong (a .says) (b .says))
+  pub known-cell : {y : Fraction} {r : ℕ} → z ≈ y → r ≡ 2 ^ n - 1 + step → r ≡ cellOf n es y
+  known-cell e h = h ∙ sym (cell-of-step (f .wide-enough) (s z k)) ∙ cell-same n es (f .wide-enough) e
+
+-- ---- equal factors, and so on
+module _ {n es p q u v : ℕ} (a : CodeOf n es p u) (b : CodeOf n es q v) where
+  pub same-total : (codeValue 14 es u +ᶠ codeValue 14 es v) ≈ (value n es p +ᶠ value n es q)
+  same-total = +ᶠ-cong (a .says) (b .says)
+
+  pub same-product : (codeValue 14 es u *ᶠ codeValue 14 es v) ≈ (value n es p *ᶠ value n es q)
+  same-product = *ᶠ-cong (a .says) (b .says)
+
+  pub same-quotient : (codeValue 14 es u /ᶠ codeValue 14 es v) ≈ (value n es p /ᶠ value n es q)
+  same-quotient = /ᶠ-cong (a .says) (b .says)
 
 pub result-small : (n es : ℕ) (divide : Bool) (p q : ℕ) {c : ℕ} → Format n es → c ≡ resultCell n es divide p q → c ≤ 131072
 result-small n es divide p q f e =

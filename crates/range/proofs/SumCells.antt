@@ -17,29 +17,31 @@ use Rattle.bound.specs.Bound.{Bound, none, closed-at, open-at, map-bound}
 use Rattle.bound.specs.Operation.{both}
 use Rattle.bound.specs.Cell.{start-of, end-of}
 use Rattle.bound.specs.End.{read-start, read-end}
-use Rattle.posit.specs.declared.inner.magnitude.Magnitude.{Magnitude}
-use Rattle.posit.specs.declared.inner.sum.Sum.{Sum}
-use Rattle.posit.specs.declared.inner.sum.Sum.the-variants.{Nothing, Something}
-use Rattle.posit.specs.declared.inner.normal.Normal.{Normal}
 use Rattle.posit.specs.Format as Spec
 use Rattle.posit.specs.Format.{Format}
 use Rattle.posit.specs.Parts.{chosenBy}
-use Rattle.posit.specs.Normals.{normalValue, NormalOf}
 use Rattle.posit.specs.Value.{value}
-use Rattle.posit.specs.Magnitudes.{withSignᶠ, Knows, IsSum}
+use Rattle.posit.specs.Magnitudes.{withSignᶠ}
 use Rattle.posit.proofs.Patterns.{some-bit}
 use Rattle.posit.proofs.Operated.{zero-value}
 use Rattle.posit.proofs.Summed.{sign-twice}
 use Rattle.posit.proofs.Mirror.{nar-is-half, power-wider, Side, below, above, side, negated-positive, value-above}
+use Rattle.code.specs.declared.inner.coded.Coded.{Coded}
+use Rattle.code.specs.declared.inner.sum.SignedSum.{SignedSum}
+use Rattle.code.specs.declared.inner.sum.SignedSum.the-variants.{Nothing, Something}
+use Rattle.code.specs.Code.{codeValue, CodeOf}
+use Rattle.code.specs.Coded.{Codes, IsSignedSum}
+use Rattle.code.specs.Step.{StepOf}
 use Rattle.range.specs.declared.inner.signed.Signed.{Signed}
 use Rattle.range.specs.Numbered.{count, patternAt, numberOf, valueAt}
 use Rattle.range.specs.Spans.{topCell}
 use Rattle.range.specs.Computed.{cellOf}
-use Rattle.range.specs.Cells.{CellEach, SignedOf, sumStart, sumEnd}
+use Rattle.range.specs.Cells.{cellWithSign, SignedOf, sumStart, sumEnd}
 use Rattle.range.proofs.Grid.{half, pattern-finite}
 use Rattle.range.proofs.Places.{top-cell}
 use Rattle.range.proofs.Tiles.{half-small}
-use Rattle.range.proofs.CellFrom.{cell-bounded, cell-same, cell-of-posit}
+use Rattle.range.proofs.CellFrom.{cell-bounded, cell-same, cell-of-posit, cell-with-sign}
+use Rattle.range.proofs.ResultCell.{known-fits, known-cell}
 use Rattle.range.proofs.ZeroCell.{cell-of-nought}
 
 -- ---- a posit with its sign apart
@@ -65,24 +67,18 @@ module _ {n es p half turned : ℕ} (f : Format n es) (g : Spec.Finite n p) (mor
       by (below h) = rw (e ∙ positive h) (more, h)
       by (above h u) = rw (e ∙ negative h) (turned-fits h)
 
-  pub signed-of : {m : ℕ} {x : Normal} → m ≡ size → NormalOf n es m x → SignedOf n es p (record { negative = leb half p; size = x })
-  signed-of {m} {x} e k = record { normal = k .normal; says = by (side g) }
+  pub signed-of : {m x : ℕ} → m ≡ size → CodeOf n es m x → SignedOf n es p (record { negative = leb half p; size = x })
+  signed-of {m} {x} e k = record { code = k .code; says = by (side g) }
     where
-      by : Side n p → withSignᶠ (leb half p) (normalValue es x) ≈ value n es p
+      by : Side n p → withSignᶠ (leb half p) (codeValue 14 es x) ≈ value n es p
       by (below h) = rw (lt-leb half p (omega arith)) (rw (e ∙ positive h) at (k .says))
       by (above h u) =
           rw (le-leb half p (omega arith), value-above n es (some-bit n (f .wide-enough)) h u) (negᶠ-cong (rw (e ∙ negative h) at (k .says)))
 
 -- ---- the cell of an exact sum
 module _ (n es : ℕ) (wide : 3 ≤ n) where
-  module _ (z : Fraction) {r : Sum} (k : IsSum z r) where
-    pub nothing-cell : {all : ℕ} → r ≡ Nothing → all ≡ 2 ^ n → all - 1 ≡ cellOf n es z
-    nothing-cell e h = omega (arith, cell-of-nought n es wide (subst (λ r. IsSum z r) e k))
-
-    pub something-cell : {b : Bool} {m : Magnitude} {c : ℕ} → r ≡ Something b m → CellEach n es b m c → c ≡ cellOf n es z
-    something-cell {b} {m} e each =
-        let known : Knows (withSignᶠ b z) m = subst (λ r. IsSum z r) e k in
-        each (withSignᶠ b z) (known .within) ∙ cell-same n es wide (sign-twice b z)
+  pub nothing-cell : (z : Fraction) {r : SignedSum} → IsSignedSum es z r → {all : ℕ} → r ≡ Nothing → all ≡ 2 ^ n → all - 1 ≡ cellOf n es z
+  nothing-cell z k e h = omega (arith, cell-of-nought n es wide (subst (λ r. IsSignedSum es z r) e k))
 
   -- ---- with a 0 the sum is the other posit
   pub zero-left : {p q r : ℕ} → Spec.Finite n q → p ≡ 0 → r ≡ 2 * numberOf n q + 1 → r ≡ cellOf n es (value n es p +ᶠ value n es q)
@@ -92,11 +88,26 @@ module _ (n es : ℕ) (wide : 3 ≤ n) where
   zero-right {p} f e h = h ∙ sym (cell-of-posit n es wide f (+ᶠ-cong (≈-refl (value n es p)) (zero-value n es e) ⨾ +ᶠ-idr (value n es p)))
 
   pub signed-sum : {p q : ℕ} {x y : Signed} → SignedOf n es p x → SignedOf n es q y
-      → cellOf n es (withSignᶠ (x .negative) (normalValue es (x .size)) +ᶠ withSignᶠ (y .negative) (normalValue es (y .size))) ≡ cellOf n es (value n es p +ᶠ value n es q)
+      → cellOf n es (withSignᶠ (x .negative) (codeValue 14 es (x .size)) +ᶠ withSignᶠ (y .negative) (codeValue 14 es (y .size))) ≡ cellOf n es (value n es p +ᶠ value n es q)
   signed-sum i j = cell-same n es wide (+ᶠ-cong (i .says) (j .says))
 
   pub cell-small : (z : Fraction) {c : ℕ} → n ≤ 16 → c ≡ cellOf n es z → c ≤ 131070
   cell-small z h e = omega (arith, cell-bounded n es wide z, power-wider n, half-small h)
+
+module _ {n es : ℕ} (f : Format n es) (z : Fraction) {r : SignedSum} (k : IsSignedSum es z r) {b : Bool} {x : Coded} (e : r ≡ Something b x) where
+  pub something-known : Codes es (withSignᶠ b z) x
+  something-known = subst (λ r. IsSignedSum es z r) e k
+
+  pub something-fits : {step : ℕ} → StepOf n es x step → step < 2 ^ n
+  something-fits s = known-fits f something-known s
+
+  pub something-small : {step c : ℕ} → StepOf n es x step → c ≡ 2 ^ n - 1 + step → c ≤ topCell n
+  something-small s h = rw (known-cell f something-known s (≈-refl (withSignᶠ b z)) h) (cell-bounded n es (f .wide-enough) (withSignᶠ b z))
+
+  pub something-cell : {step c d : ℕ} → StepOf n es x step → c ≡ 2 ^ n - 1 + step → d ≡ cellWithSign n b c → d ≡ cellOf n es z
+  something-cell s h i =
+      i ∙ ap (cellWithSign n b) (known-cell f something-known s (≈-refl (withSignᶠ b z)) h) ∙ cell-with-sign n es (f .wide-enough) b (withSignᶠ b z)
+      ∙ cell-same n es (f .wide-enough) (sign-twice b z)
 
 -- ---- the mark of an open sum: 0 where both ends are closed, else 1
 abbrev gapMark : ℕ → ℕ → ℕ

@@ -10,7 +10,7 @@ use Rattle.bound.specs.Cell.{start-of, end-of}
 use Rattle.bound.specs.End.{read-start, read-end}
 use Rattle.posit.specs.Value.{value}
 use Rattle.posit.specs.Magnitudes.{Within, withSignᶠ}
-use Rattle.posit.specs.Normals.{IsNormal, normalValue}
+use Rattle.code.specs.Code.{IsCode, codeValue}
 use Rattle.posit.specs.declared.inner.magnitude.Magnitude.{Magnitude}
 use Rattle.range.specs.declared.inner.signed.Signed.{Signed}
 use Rattle.range.specs.Numbered.{count, valueAt}
@@ -36,10 +36,10 @@ abbrev pub cellWithSign : ℕ → Bool → ℕ → ℕ
 cellWithSign n true c = topCell n - c
 cellWithSign n false c = c
 
--- a finite posit other than 0 as a sign and the normal form of its size
+-- a finite posit other than 0 as a sign and the code of its size
 pub record SignedOf (n es p : ℕ) (r : Signed) : Type 0 where
-  pub normal : IsNormal (r .size)
-  pub says : withSignᶠ (r .negative) (normalValue es (r .size)) ≈ value n es p
+  pub code : IsCode es (r .size)
+  pub says : withSignᶠ (r .negative) (codeValue 14 es (r .size)) ≈ value n es p
 
 -- ---- sums: the bounds that stand at a start and at an end cell, and the outermost cells of all sums between them
 abbrev pub startAt : ℕ → ℕ → ℕ → Bound Fraction

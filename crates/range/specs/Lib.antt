@@ -11,3 +11,5 @@ pub mod Cells
 pub mod Signs
 pub mod OneSign
 pub mod Reading
+pub mod Mixed
+pub mod Plain

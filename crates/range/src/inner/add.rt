@@ -1,7 +1,8 @@
 // The sum and the difference of two real ranges.
 ghost use mathlib.Core.Path.{_≡_};
-ghost use Prim.Native.Nat.{_+_, _*_, _≤_};
+ghost use Prim.Native.Nat.{_+_, _*_, _<_, _≤_};
 ghost use Rattle.exact.specs.Fraction.{_+ᶠ_};
+ghost use Rattle.posit.specs.Format as Spec;
 ghost use Rattle.posit.specs.Format.{Format, Finite};
 ghost use Rattle.posit.specs.Value.{value};
 ghost use Rattle.range.specs.Numbered.{numberOf};
@@ -9,9 +10,10 @@ ghost use Rattle.range.specs.Member.{Real};
 ghost use Rattle.range.specs.Spans.{topCell, cellsOf, mirrored, Cells, wordAt};
 ghost use Rattle.range.specs.Computed.{cellOf, answerOf};
 ghost use Rattle.range.specs.Cells.{sumStart, sumEnd, sumCells};
-use super::cell::cell_of;
+use super::cell::above_zero;
 use super::cell::end_posit;
 use super::cell::start_posit;
+use super::cell::with_sign;
 use super::signed::signed_form;
 use super::span::Span;
 use super::span::joined;
@@ -19,9 +21,12 @@ use super::span::top_cell;
 use super::span::word_of;
 use super::turn::turned;
 use super::word::cells_of;
-use posit::inner::normal_sum::normal_sum;
+use code::inner::form::code_of;
+use code::inner::step::step_of;
+use code::inner::sum::SignedSum;
+use code::inner::sum::signed_sum;
+use code::inner::total::total;
 use posit::inner::power::power32;
-use posit::inner::sum::Sum;
 
 // The cell of a finite posit alone.
 fn posit_cell(n: u32, p: u32) -> u32
@@ -44,15 +49,25 @@ fn sum_cell(n: u32, es: u32, p: u32, q: u32) -> u32
     }
     let x = signed_form(n, es, p);
     let y = signed_form(n, es, q);
-    let left = x.size;
-    let right = y.size;
-    match normal_sum(es, x.negative, left, y.negative, right) {
-        Sum::Nothing => power32(n) - 1,
-        Sum::Something {
+    match signed_sum(es, x.negative, x.size, y.negative, y.size) {
+        SignedSum::Nothing => power32(n) - 1,
+        SignedSum::Something { negative, size } => with_sign(
+            n,
             negative,
-            magnitude,
-        } => cell_of(n, es, negative, magnitude),
+            above_zero(n, step_of(n, es, size)),
+        ),
     }
+}
+
+// The same of two posits above 0.
+pub fn total_cell(n: u32, es: u32, p: u32, q: u32) -> u32
+    requires { ⌜ (Format n es) × (0 < p) × (p < Spec.nar n) × (0 < q) × (q < Spec.nar n) ⌝ }
+    ensures { λ r. ⌜ r ≡ cellOf n es (value n es p +ᶠ value n es q) ⌝ }
+{
+    above_zero(
+        n,
+        step_of(n, es, total(es, code_of(n, es, p), code_of(n, es, q))),
+    )
 }
 
 // The first cell of all sums of a number from the start cell x up and one from y up: a posit where both are, else a gap.

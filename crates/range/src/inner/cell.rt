@@ -1,7 +1,7 @@
 // The cell of an exact number: the posit that it is, or the gap between posits in which it lies.
 ghost use mathlib.Core.Path.{_≡_};
 ghost use mathlib.Core.Bool.{Bool};
-ghost use Prim.Native.Nat.{_-_, _/_, _^_, _<_, _≤_};
+ghost use Prim.Native.Nat.{_+_, _-_, _/_, _^_, _<_, _≤_};
 ghost use Rattle.exact.specs.Fraction.{Fraction};
 ghost use Rattle.posit.specs.Format.{Format};
 ghost use Rattle.posit.specs.Magnitudes.{Words};
@@ -24,11 +24,19 @@ fn cell_from(n: u32, pattern: u32, exact: bool) -> u32
 }
 
 // The same cell, or that of the negative.
-fn with_sign(n: u32, negative: bool, cell: u32) -> u32
+pub fn with_sign(n: u32, negative: bool, cell: u32) -> u32
     requires { ⌜ (n ≤ 16) × (cell ≤ topCell n) ⌝ }
     ensures { λ r. ⌜ r ≡ cellWithSign n negative cell ⌝ }
 {
     chosen(negative as u32, cell, top_cell(n) - cell)
+}
+
+// The cell of a number above 0 from its step among the posits.
+pub fn above_zero(n: u32, step: u32) -> u32
+    requires { ⌜ (n ≤ 16) × (step < 2 ^ n) ⌝ }
+    ensures { λ r. ⌜ r ≡ 2 ^ n - 1 + step ⌝ }
+{
+    power32(n) - 1 + step
 }
 
 // The cell of a magnitude with a sign.

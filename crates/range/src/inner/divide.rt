@@ -1,10 +1,13 @@
 // The quotient of two real ranges, with the divisor's 0 left out.
 ghost use mathlib.Core.Path.{_≡_};
+ghost use Prim.Native.Nat.{_≤_};
 ghost use Rattle.posit.specs.Format.{Format};
 ghost use Rattle.range.specs.Member.{Real};
 ghost use Rattle.range.specs.Spans.{RealCells, wordAt};
 ghost use Rattle.range.specs.Signs.{quotientCells};
 ghost use Rattle.range.specs.Computed.{answerOf};
+use super::mixed::is_mixed_by;
+use super::mixed::mixed_quotients;
 use super::one_sign::have_one_sign;
 use super::one_sign::one_sign_quotients;
 use super::signs::has_other;
@@ -27,6 +30,20 @@ fn quotients(n: u32, es: u32, x: Span, y: Span) -> Span
     hull(signed, zero)
 }
 
+// The cells of all quotients of two ranges that have members: a short way for the usual signs.
+fn some_quotients(n: u32, es: u32, x: Span, y: Span) -> Span
+    requires { ⌜ (Format n es) × (RealCells n x) × (RealCells n y) × (x .lo ≤ x .hi) × (y .lo ≤ y .hi) ⌝ }
+    ensures { λ r. ⌜ r ≡ quotientCells n es x y ⌝ }
+{
+    if have_one_sign(n, x, y) {
+        return one_sign_quotients(n, es, x, y);
+    }
+    if is_mixed_by(n, x, y) {
+        return mixed_quotients(n, es, x, y);
+    }
+    quotients(n, es, x, y)
+}
+
 // The quotient of two ranges that are given by their cells.
 pub fn divide_cells(n: u32, es: u32, x: Span, y: Span) -> u64
     requires { ⌜ (Format n es) × (RealCells n x) × (RealCells n y) ⌝ }
@@ -38,10 +55,7 @@ pub fn divide_cells(n: u32, es: u32, x: Span, y: Span) -> u64
     if y.hi < y.lo {
         return joined(n, 1, 1);
     }
-    if have_one_sign(n, x, y) {
-        return word_of(n, one_sign_quotients(n, es, x, y));
-    }
-    word_of(n, quotients(n, es, x, y))
+    word_of(n, some_quotients(n, es, x, y))
 }
 
 pub fn divide_ranges(n: u32, es: u32, a: u64, b: u64) -> u64

@@ -1,10 +1,13 @@
 // The product of two real ranges.
 ghost use mathlib.Core.Path.{_≡_};
+ghost use Prim.Native.Nat.{_≤_};
 ghost use Rattle.posit.specs.Format.{Format};
 ghost use Rattle.range.specs.Member.{Real};
 ghost use Rattle.range.specs.Spans.{RealCells, wordAt};
 ghost use Rattle.range.specs.Signs.{productCells};
 ghost use Rattle.range.specs.Computed.{answerOf};
+use super::mixed::is_mixed_by;
+use super::mixed::mixed_products;
 use super::one_sign::have_one_sign;
 use super::one_sign::one_sign_products;
 use super::signs::has_other;
@@ -28,6 +31,23 @@ fn products(n: u32, es: u32, x: Span, y: Span) -> Span
     hull(hull(signed, left), right)
 }
 
+// The cells of all products of two ranges that have members: a short way for the usual signs.
+fn some_products(n: u32, es: u32, x: Span, y: Span) -> Span
+    requires { ⌜ (Format n es) × (RealCells n x) × (RealCells n y) × (x .lo ≤ x .hi) × (y .lo ≤ y .hi) ⌝ }
+    ensures { λ r. ⌜ r ≡ productCells n es x y ⌝ }
+{
+    if have_one_sign(n, x, y) {
+        return one_sign_products(n, es, x, y);
+    }
+    if is_mixed_by(n, x, y) {
+        return mixed_products(n, es, x, y);
+    }
+    if is_mixed_by(n, y, x) {
+        return mixed_products(n, es, y, x);
+    }
+    products(n, es, x, y)
+}
+
 // The product of two ranges that are given by their cells.
 pub fn multiply_cells(n: u32, es: u32, x: Span, y: Span) -> u64
     requires { ⌜ (Format n es) × (RealCells n x) × (RealCells n y) ⌝ }
@@ -39,10 +59,7 @@ pub fn multiply_cells(n: u32, es: u32, x: Span, y: Span) -> u64
     if y.hi < y.lo {
         return joined(n, 1, 1);
     }
-    if have_one_sign(n, x, y) {
-        return word_of(n, one_sign_products(n, es, x, y));
-    }
-    word_of(n, products(n, es, x, y))
+    word_of(n, some_products(n, es, x, y))
 }
 
 pub fn multiply_ranges(n: u32, es: u32, a: u64, b: u64) -> u64

@@ -15,7 +15,7 @@ use super::span::mirror;
 use posit::inner::power::power32;
 
 // Whether all members are above 0.
-fn is_above(n: u32, s: Span) -> bool
+pub fn is_above(n: u32, s: Span) -> bool
     requires { ⌜ n ≤ 16 ⌝ }
     ensures { λ r. ⌜ r ≡ isAbove n s ⌝ }
 {
@@ -23,7 +23,7 @@ fn is_above(n: u32, s: Span) -> bool
 }
 
 // Whether all members are above 0 or all are below.
-fn has_one_sign(n: u32, s: Span) -> bool
+pub fn has_one_sign(n: u32, s: Span) -> bool
     requires { ⌜ n ≤ 16 ⌝ }
     ensures { λ r. ⌜ r ≡ hasOneSign n s ⌝ }
 {
@@ -40,7 +40,7 @@ pub fn have_one_sign(n: u32, x: Span, y: Span) -> bool
 }
 
 // The cells of the magnitudes.
-fn magnitudes(n: u32, s: Span) -> Span
+pub fn magnitudes(n: u32, s: Span) -> Span
     requires { ⌜ (n ≤ 16) × (OneSign n s) ⌝ }
     ensures { λ r. ⌜ r ≡ Spec.magnitudes n s ⌝ }
 {

@@ -7,14 +7,15 @@ ghost use Rattle.posit.specs.Format.{Format};
 ghost use Rattle.posit.specs.Parts.{chosenBy};
 ghost use Rattle.range.specs.Spans.{topCell};
 ghost use Rattle.range.specs.Signs.{startEdge, endEdge, resultCell, CellAbove, firstCell, lastCell, PartAbove, positiveSome, positiveResults};
-use super::cell::cell_of;
+use super::cell::above_zero;
 use super::span::Span;
 use super::span::no_cells;
 use super::span::top_cell;
+use code::inner::form::code_of;
+use code::inner::product::product;
+use code::inner::quotient::quotient;
+use code::inner::step::step_of;
 use posit::inner::choose::chosen;
-use posit::inner::normal::normal_form;
-use posit::inner::normal_product::normal_product;
-use posit::inner::normal_quotient::normal_quotient;
 use posit::inner::power::power32;
 
 // The posit at a start above 0, and the one at an end: they have no sign, so the number of a cell above that of 0 is enough.
@@ -33,27 +34,23 @@ fn end_above(n: u32, cell: u32) -> u32
 }
 
 // The cell of the product of two posits above 0, and that of their quotient.
-fn product_cell(n: u32, es: u32, p: u32, q: u32) -> u32
+pub fn product_cell(n: u32, es: u32, p: u32, q: u32) -> u32
     requires { ⌜ (Format n es) × (0 < p) × (p < Spec.nar n) × (0 < q) × (q < Spec.nar n) ⌝ }
     ensures { λ r. ⌜ r ≡ resultCell n es false p q ⌝ }
 {
-    cell_of(
+    above_zero(
         n,
-        es,
-        false,
-        normal_product(es, normal_form(n, es, p), normal_form(n, es, q)),
+        step_of(n, es, product(es, code_of(n, es, p), code_of(n, es, q))),
     )
 }
 
-fn quotient_cell(n: u32, es: u32, p: u32, q: u32) -> u32
+pub fn quotient_cell(n: u32, es: u32, p: u32, q: u32) -> u32
     requires { ⌜ (Format n es) × (0 < p) × (p < Spec.nar n) × (0 < q) × (q < Spec.nar n) ⌝ }
     ensures { λ r. ⌜ r ≡ resultCell n es true p q ⌝ }
 {
-    cell_of(
+    above_zero(
         n,
-        es,
-        false,
-        normal_quotient(normal_form(n, es, p), normal_form(n, es, q)),
+        step_of(n, es, quotient(es, code_of(n, es, p), code_of(n, es, q))),
     )
 }
 
@@ -93,7 +90,7 @@ fn product_first(n: u32, es: u32, x: u32, y: u32) -> u32
 }
 
 // The last cell of the products up to two ends.
-fn product_last(n: u32, es: u32, x: u32, y: u32) -> u32
+pub fn product_last(n: u32, es: u32, x: u32, y: u32) -> u32
     requires { ⌜ (Format n es) × (CellAbove n x) × (CellAbove n y) ⌝ }
     ensures { λ r. ⌜ r ≡ lastCell n es false (endEdge n x) (endEdge n y) ⌝ }
 {
@@ -127,7 +124,7 @@ fn quotient_first(n: u32, es: u32, x: u32, y: u32) -> u32
 }
 
 // The last cell of the quotients up to an end over a start.
-fn quotient_last(n: u32, es: u32, x: u32, y: u32) -> u32
+pub fn quotient_last(n: u32, es: u32, x: u32, y: u32) -> u32
     requires { ⌜ (Format n es) × (CellAbove n x) × (CellAbove n y) ⌝ }
     ensures { λ r. ⌜ r ≡ lastCell n es true (endEdge n x) (startEdge n y) ⌝ }
 {

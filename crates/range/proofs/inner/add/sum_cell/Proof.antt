@@ -1,10 +1,9 @@
 -- `range::inner::add::sum_cell` meets its contract: beside 0 the cell is that of the other posit, and else that of the exact sum (`SumCells`).
 use mathlib.Core.Path.{_∙_}
 use native.Mathlib.Omega.{arith}
-use borrow.Author.Needs.{needs}
 use lib.Pow.{pow-pos}
-use Rattle.posit.proofs.Added.{something-words}
-use Rattle.range.proofs.SumCells.{zero-left, zero-right, nothing-cell, something-cell, signed-sum}
+use Rattle.range.proofs.SumCells.{zero-left, zero-right, nothing-cell, something-known, something-fits, something-small, something-cell, signed-sum}
+use borrow.Author.Needs.{needs}
 use Rattle.range.proofs.inner.add.sum_cell.Statement.{statement}
 use Rattle.range.proofs.inner.add.sum_cell.Tie as tie
 
@@ -26,8 +25,8 @@ signed-form-requires c κs = (c .before .before .pre .0, c .before .before .pre 
 signed-form-requires-2 : tie.Need-signed-form-requires-2
 signed-form-requires-2 c κs = (c .before .before .before .pre .0, c .before .before .before .pre .2, omega (arith, c .before .if2 .left))
 
-normal-sum-requires : tie.Need-normal-sum-requires
-normal-sum-requires c κs = (c .before .before .before .before .before .before .pre .0 .exponent-fits, c .before .before .before .signed-form .ensures .normal, c .before .before .signed-form2 .ensures .normal)
+signed-sum-requires : tie.Need-signed-sum-requires
+signed-sum-requires c κs = search needs
 
 enum-told : tie.Need-enum-told
 enum-told c = search needs
@@ -36,22 +35,26 @@ power32-requires : tie.Need-power32-requires
 power32-requires c κs = search needs
 
 sub-result : tie.Need-sub-result
-sub-result c = omega (arith, pow-pos (c .before .before .before .before .before .before .before .before .before .before .args .n))
+sub-result c = search needs
 
 enum-known-negative : tie.Need-enum-known-negative
 enum-known-negative c = search needs
 
-cell-of-requires : tie.Need-cell-of-requires
-cell-of-requires c κs = (c .before .before .before .before .before .before .before .before .before .before .pre .0, something-words _ (c .before .before .before .normal-sum .ensures) (c .before .negative .given .1))
+step-of-requires : tie.Need-step-of-requires
+step-of-requires c κs = (c .before .before .before .before .before .before .before .before .pre .0, something-known (c .before .before .before .before .before .before .before .before .pre .0) _ (c .before .before .before .signed-sum .ensures) (c .before .negative .given .1) .fits)
+
+above-zero-requires : tie.Need-above-zero-requires
+above-zero-requires c κs = (c .before .before .before .before .before .before .before .before .before .pre .0 .not-too-wide, something-fits (c .before .before .before .before .before .before .before .before .before .pre .0) _ (c .before .before .before .before .signed-sum .ensures) (c .before .before .negative .given .1) (c .step-of .ensures))
+
+with-sign-requires : tie.Need-with-sign-requires
+with-sign-requires c κs = (c .before .before .before .before .before .before .before .before .before .before .pre .0 .not-too-wide, something-small (c .before .before .before .before .before .before .before .before .before .before .pre .0) _ (c .before .before .before .before .before .signed-sum .ensures) (c .before .before .before .negative .given .1) (c .before .step-of .ensures) (c .above-zero .ensures))
 
 returns-3 : tie.Need-returns-3
-returns-3 c =
-    nothing-cell _ _ (c .before .before .before .before .before .before .before .before .before .before .pre .0 .wide-enough) _ (c .before .before .before .normal-sum .ensures) (c .before .enum-told .given .1) (c .power32 .ensures)
-    ∙ signed-sum _ _ (c .before .before .before .before .before .before .before .before .before .before .pre .0 .wide-enough) (c .before .before .before .before .before .before .before .signed-form .ensures) (c .before .before .before .before .before .before .signed-form2 .ensures)
+returns-3 c = nothing-cell _ _ (c .before .before .before .before .before .before .before .before .pre .0 .wide-enough) _ (c .before .before .before .signed-sum .ensures) (c .before .enum-told .given .1) (c .power32 .ensures)
+    ∙ signed-sum _ _ (c .before .before .before .before .before .before .before .before .pre .0 .wide-enough) (c .before .before .before .before .before .signed-form .ensures) (c .before .before .before .before .signed-form2 .ensures)
 
 returns-4 : tie.Need-returns-4
-returns-4 c =
-    something-cell _ _ (c .before .before .before .before .before .before .before .before .before .before .before .pre .0 .wide-enough) _ (c .before .before .before .before .normal-sum .ensures) (c .before .before .negative .given .1) (c .cell-of .ensures)
+returns-4 c = something-cell (c .before .before .before .before .before .before .before .before .before .before .before .pre .0) _ (c .before .before .before .before .before .before .signed-sum .ensures) (c .before .before .before .before .negative .given .1) (c .before .before .step-of .ensures) (c .before .above-zero .ensures) (c .with-sign .ensures)
     ∙ signed-sum _ _ (c .before .before .before .before .before .before .before .before .before .before .before .pre .0 .wide-enough) (c .before .before .before .before .before .before .before .before .signed-form .ensures) (c .before .before .before .before .before .before .before .signed-form2 .ensures)
 
 pub sum-cell-spec : {M : Type 1} → statement M
@@ -64,11 +67,13 @@ sum-cell-spec =
     returns-2
     signed-form-requires
     signed-form-requires-2
-    normal-sum-requires
+    signed-sum-requires
     enum-told
     power32-requires
     sub-result
     enum-known-negative
-    cell-of-requires
+    step-of-requires
+    above-zero-requires
+    with-sign-requires
     returns-3
     returns-4)

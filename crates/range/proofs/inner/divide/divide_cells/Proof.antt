@@ -1,4 +1,4 @@
--- `range::inner::divide::divide_cells` meets its contract: an empty operand has no quotients, and both ways of finding the quotients of others find all.
+-- `range::inner::divide::divide_cells` meets its contract: an empty operand has no quotients, and those of others are found as cells.
 use mathlib.Core.Path.{ap, _∙_}
 use native.Mathlib.Omega.{arith}
 use borrow.Author.Needs.{needs}
@@ -6,7 +6,6 @@ use Rattle.posit.proofs.Mirror.{power-wider}
 use Rattle.range.specs.Spans.{wordAt}
 use Rattle.range.proofs.Tiles.{half-large}
 use Rattle.range.proofs.NoOperand.{left-empty-quotient, right-empty-quotient}
-use Rattle.range.proofs.OneSigned.{left-one-sign, right-one-sign}
 use Rattle.range.proofs.ByStages.{quotient-there}
 use Rattle.range.proofs.inner.divide.divide_cells.Statement.{statement}
 use Rattle.range.proofs.inner.divide.divide_cells.Tie as tie
@@ -27,35 +26,16 @@ returns-2 c =
     let start = c .before .before .before .before .before in
     right-empty-quotient (start .args .n) (start .pre .0 .wide-enough) (start .args .es) (start .args .x) (start .args .y) (c .joined2 .ensures) (start .pre .2) (c .before .if2 .taken)
 
-have-one-sign-requires : tie.Need-have-one-sign-requires
-have-one-sign-requires c κs = search needs
-
-one-sign-quotients-requires : tie.Need-one-sign-quotients-requires
-one-sign-quotients-requires c κs =
-    let start = c .before .before .before .before .before .before in (
-      start .pre .0,
-      left-one-sign (start .args .n) (start .args .x) (start .args .y) (c .before .have-one-sign .ensures) (c .if3 .taken) (start .pre .1) (c .before .before .before .before .if1 .left),
-      right-one-sign (start .args .n) (start .args .x) (start .args .y) (c .before .have-one-sign .ensures) (c .if3 .taken) (start .pre .2) (c .before .before .if2 .left),
-    )
+some-quotients-requires : tie.Need-some-quotients-requires
+some-quotients-requires c κs = search needs
 
 word-of-requires : tie.Need-word-of-requires
 word-of-requires c κs =
-    let start = c .before .before .before .before .before .before .before in
-    (start .pre .0 .wide-enough, start .pre .0 .not-too-wide, rw (c .one-sign-quotients .ensures) (quotient-there (start .args .n) (start .args .es) (start .pre .0 .wide-enough) (start .args .x) (start .args .y)))
+    let start = c .before .before .before .before .before in
+    (start .pre .0 .wide-enough, start .pre .0 .not-too-wide, rw (c .some-quotients .ensures) (quotient-there (start .args .n) (start .args .es) (start .pre .0 .wide-enough) (start .args .x) (start .args .y)))
 
 returns-3 : tie.Need-returns-3
-returns-3 c = c .word-of .ensures ∙ ap (wordAt (c .before .before .before .before .before .before .before .before .args .n)) (c .before .one-sign-quotients .ensures)
-
-quotients-requires : tie.Need-quotients-requires
-quotients-requires c κs = search needs
-
-word-of-requires-2 : tie.Need-word-of-requires-2
-word-of-requires-2 c κs =
-    let start = c .before .before .before .before .before .before .before in
-    (start .pre .0 .wide-enough, start .pre .0 .not-too-wide, rw (c .quotients .ensures) (quotient-there (start .args .n) (start .args .es) (start .pre .0 .wide-enough) (start .args .x) (start .args .y)))
-
-returns-4 : tie.Need-returns-4
-returns-4 c = c .word-of2 .ensures ∙ ap (wordAt (c .before .before .before .before .before .before .before .before .args .n)) (c .before .quotients .ensures)
+returns-3 c = c .word-of .ensures ∙ ap (wordAt (c .before .before .before .before .before .before .args .n)) (c .before .some-quotients .ensures)
 
 pub divide-cells-spec : {M : Type 1} → statement M
 divide-cells-spec =
@@ -65,10 +45,6 @@ divide-cells-spec =
     returns
     joined-requires-2
     returns-2
-    have-one-sign-requires
-    one-sign-quotients-requires
+    some-quotients-requires
     word-of-requires
-    returns-3
-    quotients-requires
-    word-of-requires-2
-    returns-4)
+    returns-3)

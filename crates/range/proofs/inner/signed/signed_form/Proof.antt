@@ -1,8 +1,8 @@
 -- `range::inner::signed::signed_form` meets its contract: a posit above NaR's pattern is the negative of the negated one (`SumCells`).
 use lib.Dec.{leb}
-use borrow.Author.Needs.{needs}
 use Rattle.range.proofs.CellFrom.{mark-fits}
 use Rattle.range.proofs.SumCells.{size-fits, signed-of}
+use borrow.Author.Needs.{needs}
 use Rattle.range.proofs.inner.signed.signed_form.Statement.{statement}
 use Rattle.range.proofs.inner.signed.signed_form.Tie as tie
 
@@ -21,8 +21,8 @@ negated-requires c κs = search needs
 chosen-requires : tie.Need-chosen-requires
 chosen-requires c κs = mark-fits (leb (c .before .power32 .result) (c .before .before .args .p))
 
-normal-form-requires : tie.Need-normal-form-requires
-normal-form-requires c κs =
+code-of-requires : tie.Need-code-of-requires
+code-of-requires c κs =
     let s = c .before .before .before .pre in
     let (more, less) = size-fits (s .0) (s .1) (s .2) (c .before .before .power32 .ensures) (c .before .negated .ensures) (c .chosen .ensures) in
     (s .0, more, less)
@@ -30,7 +30,7 @@ normal-form-requires c κs =
 returns : tie.Need-returns
 returns c =
     let s = c .before .before .before .before .pre in
-    signed-of (s .0) (s .1) (s .2) (c .before .before .before .power32 .ensures) (c .before .before .negated .ensures) (c .before .chosen .ensures) (c .normal-form .ensures)
+    signed-of (s .0) (s .1) (s .2) (c .before .before .before .power32 .ensures) (c .before .before .negated .ensures) (c .before .chosen .ensures) (c .code-of .ensures)
 
 pub signed-form-spec : {M : Type 1} → statement M
 signed-form-spec =
@@ -41,5 +41,5 @@ signed-form-spec =
     cast-chosen
     negated-requires
     chosen-requires
-    normal-form-requires
+    code-of-requires
     returns)

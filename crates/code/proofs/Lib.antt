@@ -1,0 +1,10 @@
+pub mod Flip
+pub mod Form
+pub mod Placed
+pub mod Known
+pub mod ProductCode
+pub mod QuotientCode
+pub mod Alignment
+pub mod Summed
+pub mod Cutting
+pub mod Stepping

@@ -1,0 +1,215 @@
+-- The sum of two codes' magnitudes with signs: equal signs add the sizes, and other signs leave their difference with the sign of the greater one.
+use mathlib.Core.Path.{_≡_, refl, sym, ap}
+use mathlib.Core.Bool.{Bool, true, false, not, _&&_, Bool·beq}
+use Prim.Native.Nat.{ℕ, _+_, _-_, _*_, _^_, _≤_, _<_, min, max}
+use native.Mathlib.Nat.{min-eq-left, min-eq-right, max-eq-left, max-eq-right, le-of-lt}
+use native.Mathlib.Decide.{decLe}
+use native.Mathlib.Omega.{arith}
+use lib.Dec.{ltb}
+use lib.IntN.{pos, _-ℤ_}
+use lib.Pow.{pow-pos, pow-mono}
+use borrow.Author.Tests.{ltb-true, ltb-false}
+use Rattle.exact.specs.Fraction.{_≈_, whole, overPower, _+ᶠ_, _-ᶠ_}
+use Rattle.exact.proofs.Linear.{spread, parts}
+use Rattle.exact.proofs.Order.{≈-sym, _⨾_}
+use Rattle.exact.proofs.Sign.{≈0}
+use Rattle.exact.proofs.Sum.{negᶠ-difference}
+use Rattle.exact.proofs.OverPower.{overPower-+ᶠ, overPower-difference}
+use Rattle.posit.specs.Parts.{HighestBit}
+use Rattle.posit.specs.Magnitudes.{withSignᶠ}
+use Rattle.posit.proofs.Exactly.{never, within-respects}
+use Rattle.posit.proofs.KnownWide.{cut-within}
+use Rattle.posit.proofs.Summed.{sign-twice, sign-other, sign-cong, sign-sum, sign-difference}
+use Rattle.code.specs.declared.inner.aligned.Aligned.{Aligned}
+use Rattle.code.specs.Code.{IsCode, codeBits, codeValue}
+use Rattle.code.specs.Coded.{Codes, codeFrom}
+use Rattle.code.specs.Aligned.{AlignedOf, lostUnit, sizeOf}
+use Rattle.code.proofs.Placed.{Knows, placed, place-fits, placed-codes}
+use Rattle.code.proofs.Known.{known}
+use Rattle.code.proofs.Alignment.{Leads, unitsOf, aligned-leads}
+
+-- ---- two numbers over one power of two
+module _ (u M N : ℕ) where
+  over-both : (overPower (pos M) u +ᶠ overPower (pos N) u) ≈ overPower (pos (M + N)) u
+  over-both = overPower-+ᶠ u (pos M) (pos N)
+
+  over-difference : N ≤ M → (overPower (pos M) u -ᶠ overPower (pos N) u) ≈ overPower (pos (M - N)) u
+  over-difference h =
+      let d : pos M -ℤ pos N ≡ pos (M - N) = simp spread (simp parts (omega arith)) in
+      rw d at (overPower-difference u (pos M) (pos N))
+
+-- ---- the sum and the difference, cut
+bits-more : (es : ℕ) → codeBits 28 es ≡ codeBits 14 es + 14
+bits-more es = omega arith
+
+module _ (es scale M N p g : ℕ) where
+  whole-difference : M * 2 ^ 14 ≡ (p + g) * 2 ^ scale → N * 2 ^ 14 ≡ p * 2 ^ scale → (N ≤ M) × Knows es scale g false (overPower (pos (M - N)) (codeBits 14 es))
+  whole-difference first second =
+      (omega arith, rw (bits-more es) (cut-within (M - N) (codeBits 14 es) 14 g scale 0 (omega arith) (pow-pos scale) false (λ e. refl) never))
+
+  cut-difference : (b : ℕ) → b < 2 ^ scale → 0 < b → M * 2 ^ 14 ≡ (p + g + 1) * 2 ^ scale → N * 2 ^ 14 ≡ p * 2 ^ scale + b
+      → (N ≤ M) × Knows es scale g true (overPower (pos (M - N)) (codeBits 14 es))
+  cut-difference b less some first second = (
+    omega arith,
+    rw (bits-more es) (cut-within (M - N) (codeBits 14 es) 14 g scale (2 ^ scale - b) (omega arith) (omega arith) true (λ e. never (sym e)) (λ e. omega arith)),
+  )
+
+module _ (es : ℕ) {scale M N upper lower : ℕ} where
+  sum-known : {lost : Bool} → Leads scale M N upper lower lost → Knows es scale (upper + lower) lost (overPower (pos (M + N)) (codeBits 14 es))
+  sum-known {lost} l =
+      rw (bits-more es) (cut-within (M + N) (codeBits 14 es) 14 (upper + lower) scale (l .rest) (omega arith) (l .rest-less) lost (l .none) (l .some))
+
+  difference-known : (lost : Bool) (g : ℕ) → Leads scale M N upper lower lost → g ≡ upper - lower - lostUnit lost
+      → (N ≤ M) × Knows es scale g lost (overPower (pos (M - N)) (codeBits 14 es))
+  difference-known false g l is =
+      let k : upper ≡ lower + g = omega (arith, l .not-above) in
+      whole-difference es scale M N lower g (rw k at (l .first)) (omega (arith, l .none refl))
+  difference-known true g l is =
+      let k : upper ≡ lower + g + 1 = omega (arith, l .far-below refl) in
+      cut-difference es scale M N lower g (l .rest) (l .rest-less) (l .some refl) (rw k at (l .first)) (l .second)
+
+leads-same : {scale M N upper lower : ℕ} (lost : Bool) → Leads scale M N upper lower lost → upper - lower - lostUnit lost ≡ 0 → M ≡ N
+leads-same {scale} {upper = upper} {lower = lower} false l z =
+    let same : upper ≡ lower = omega (arith, l .not-above) in
+    omega (arith, l .first, l .second, l .none refl, ap (λ (g : ℕ). g * 2 ^ scale) same)
+leads-same true l z = let no : ⊥ = omega (arith, l .at-least, l .far-below refl) in absurd no
+
+-- ---- the sum of two codes
+sign-none : (b : Bool) (u : ℕ) → withSignᶠ b (overPower (pos 0) u) ≈ whole (pos 0)
+sign-none true u = ≈0 .1 refl
+sign-none false u = ≈0 .1 refl
+
+first-sign : (b : Bool) → not (Bool·beq b (not (Bool·beq b (not b)) && false)) ≡ b
+first-sign true = refl
+first-sign false = refl
+
+second-sign : (b : Bool) → not (Bool·beq b (not (Bool·beq b (not b)) && true)) ≡ not b
+second-sign true = refl
+second-sign false = refl
+
+module _ {x y : ℕ} {a : Aligned} (o : AlignedOf x y a) where
+  in-order : y ≤ x → Leads (a .scale) (unitsOf x) (unitsOf y) (a .upper) (a .lower) (a .lost)
+  in-order h = rw (max-eq-left h, min-eq-right h) at (aligned-leads x y o)
+
+  turned : x ≤ y → Leads (a .scale) (unitsOf y) (unitsOf x) (a .upper) (a .lower) (a .lost)
+  turned h = rw (max-eq-right h, min-eq-left h) at (aligned-leads x y o)
+
+  scale-from : {es : ℕ} → IsCode es x → IsCode es y → (48 * 2 ^ es ≤ a .scale) × (a .scale < 80 * 2 ^ es)
+  scale-from isX isY = (omega (arith, isX .at-least, isY .at-least, o .scale), omega (arith, isX .less, isY .less, o .scale))
+
+  both-units : unitsOf (max x y) + unitsOf (min x y) ≡ unitsOf x + unitsOf y
+  both-units =
+      elim (decLe x y) [
+        | yes h ↦ rw (max-eq-right h, min-eq-left h) (omega arith)
+        | no h ↦ let k : y ≤ x = omega arith in rw (max-eq-left k, min-eq-right k) refl
+      ]
+
+  -- ---- its size
+  pub size-taken : (a .lower ≤ a .upper) × (a .upper < 2 ^ 29) × (a .lost ≡ true → a .lower < a .upper)
+  size-taken = let l = aligned-leads x y o in (l .not-above, l .less, λ k. omega (arith, l .at-least, l .far-below k))
+
+  pub size-some : 2 ^ 28 ≤ a .upper + a .lower
+  size-some = omega (arith, aligned-leads x y o .at-least)
+
+  pub size-few : (differ : Bool) → sizeOf differ a < 2 ^ 30
+  size-few true = omega (arith, size-taken)
+  size-few false = omega (arith, size-taken)
+
+  size-many : (differ : Bool) → a .lost ≡ true → 2 ^ 27 ≤ sizeOf differ a
+  size-many true k = let l = aligned-leads x y o in rw k (omega (arith, l .at-least, l .far-below k))
+  size-many false k = omega (arith, size-some)
+
+  same-units : sizeOf true a ≡ 0 → unitsOf x ≡ unitsOf y
+  same-units z =
+      elim (decLe x y) [
+        | yes h ↦ sym (leads-same (a .lost) (turned h) z)
+        | no h ↦ leads-same (a .lost) (in-order (omega arith)) z
+      ]
+
+  -- ---- the sizes with their signs
+  module _ (es : ℕ) where
+    both-known : Knows es (a .scale) (a .upper + a .lower) (a .lost) (codeValue 14 es x +ᶠ codeValue 14 es y)
+    both-known =
+        within-respects
+        (≈-sym (over-both (codeBits 14 es) (unitsOf x) (unitsOf y)))
+        (rw both-units at (sum-known es (aligned-leads x y o)))
+
+    same-known : (b : Bool) → Knows es (a .scale) (a .upper + a .lower) (a .lost) (withSignᶠ b (withSignᶠ b (codeValue 14 es x) +ᶠ withSignᶠ b (codeValue 14 es y)))
+    same-known b =
+        within-respects
+        (≈-sym (sign-cong b (≈-sym (sign-sum b (codeValue 14 es x) (codeValue 14 es y))) ⨾ sign-twice b (codeValue 14 es x +ᶠ codeValue 14 es y)))
+        both-known
+
+    differ-known : (b t : Bool) → ltb x y ≡ t
+        → Knows es (a .scale) (sizeOf true a) (a .lost)
+        (withSignᶠ (not (Bool·beq b (not (Bool·beq b (not b)) && t))) (withSignᶠ b (codeValue 14 es x) +ᶠ withSignᶠ (not b) (codeValue 14 es y)))
+    differ-known b false t =
+        let known = difference-known es (a .lost) (sizeOf true a) (in-order (ltb-false x y t)) refl in
+        rw (first-sign b)
+        (within-respects
+        (≈-sym (sign-cong b (sign-difference b (codeValue 14 es x) (codeValue 14 es y))
+        ⨾ sign-twice b (codeValue 14 es x -ᶠ codeValue 14 es y)
+        ⨾ over-difference (codeBits 14 es) (unitsOf x) (unitsOf y) (known .0)))
+        (known .1))
+    differ-known b true t =
+        let known = difference-known es (a .lost) (sizeOf true a) (turned (le-of-lt (ltb-true x y t))) refl in
+        rw (second-sign b)
+        (within-respects
+        (≈-sym (sign-cong (not b) (sign-difference b (codeValue 14 es x) (codeValue 14 es y))
+        ⨾ sign-other b (codeValue 14 es x -ᶠ codeValue 14 es y)
+        ⨾ negᶠ-difference (codeValue 14 es x) (codeValue 14 es y)
+        ⨾ over-difference (codeBits 14 es) (unitsOf y) (unitsOf x) (known .0)))
+        (known .1))
+
+    differ-none : (b : Bool) → sizeOf true a ≡ 0 → (withSignᶠ b (codeValue 14 es x) +ᶠ withSignᶠ (not b) (codeValue 14 es y)) ≈ whole (pos 0)
+    differ-none b z =
+        let same : unitsOf x ≡ unitsOf y = same-units z in
+        let none : unitsOf x - unitsOf y ≡ 0 = omega (arith, same) in
+        sign-difference b (codeValue 14 es x) (codeValue 14 es y)
+        ⨾ sign-cong b (rw none at (over-difference (codeBits 14 es) (unitsOf x) (unitsOf y) (omega (arith, same))))
+        ⨾ sign-none b (codeBits 14 es)
+
+    signed-known : (less under : Bool)
+        → Knows es (a .scale) (sizeOf (not (Bool·beq less under)) a) (a .lost)
+        (withSignᶠ (not (Bool·beq less (not (Bool·beq less under) && ltb x y))) (withSignᶠ less (codeValue 14 es x) +ᶠ withSignᶠ under (codeValue 14 es y)))
+    signed-known true true = same-known true
+    signed-known true false = differ-known true (ltb x y) refl
+    signed-known false true = differ-known false (ltb x y) refl
+    signed-known false false = same-known false
+
+    pub signed-none : (less under : Bool) → sizeOf (not (Bool·beq less under)) a ≡ 0
+        → (withSignᶠ less (codeValue 14 es x) +ᶠ withSignᶠ under (codeValue 14 es y)) ≈ whole (pos 0)
+    signed-none true true z = let no : ⊥ = omega (arith, size-some) in absurd no
+    signed-none true false z = differ-none true z
+    signed-none false true z = differ-none false z
+    signed-none false false z = let no : ⊥ = omega (arith, size-some) in absurd no
+
+    -- ---- what is known of it
+    module _ (small : es ≤ 2) (isX : IsCode es x) (isY : IsCode es y) where
+      pub scale-less : a .scale < 2 ^ 10
+      scale-less = omega (arith, scale-from isX isY, pow-mono small)
+
+      pub total-codes : Codes es (codeValue 14 es x +ᶠ codeValue 14 es y) (record { code = codeFrom (a .scale) (a .upper + a .lower); lost = a .lost })
+      total-codes =
+          let k = both-known in
+          let s = scale-from isX isY in
+          known small (omega (arith, s)) (omega (arith, s, pow-pos es)) size-some (size-few false) (k .at-least) (k .less) (k .whole-of-it) (k .more-than-it)
+
+      module _ (less under : Bool) (g h : ℕ) (is : g ≡ sizeOf (not (Bool·beq less under)) a) (highest : HighestBit g h) where
+        few : g < 2 ^ 30
+        few = rw is (size-few (not (Bool·beq less under)))
+
+        pub signed-place : h ≤ 29
+        signed-place = place-fits g h highest few
+
+        pub signed-codes : Codes es
+            (withSignᶠ (not (Bool·beq less (not (Bool·beq less under) && ltb x y))) (withSignᶠ less (codeValue 14 es x) +ᶠ withSignᶠ under (codeValue 14 es y)))
+            (record { code = placed (a .scale) g h; lost = a .lost })
+        signed-codes =
+            let s = scale-from isX isY in
+            placed-codes es (a .scale) g h highest few (omega (arith, s, pow-pos es)) (omega (arith, s, pow-pos es, signed-place))
+            (λ k. rw is (size-many (not (Bool·beq less under)) k))
+            (rw is (signed-known less under))
+
+        pub signed-fits : placed (a .scale) g h < 2 ^ 64
+        signed-fits = omega (arith, signed-codes .fits .less, pow-mono small)

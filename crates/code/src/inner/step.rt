@@ -1,0 +1,37 @@
+// Where an exact result lies among the posits.
+ghost use Rattle.posit.specs.Format.{Format};
+ghost use Rattle.code.specs.Coded.{Fits};
+ghost use Rattle.code.specs.Step.{StepOf};
+use super::coded::Coded;
+use super::flip::flipped;
+use super::form::FIRST;
+use super::form::REGIME;
+use super::form::TO_TAIL;
+use posit::inner::power::power;
+
+// Moved up by so many places less the exponent size, a code has its regime in a word's first seven bits.
+const TO_REGIME: u32 = 28;
+
+// The bit behind the sign stands first in a word: so many places less the width are below the pattern.
+const PLACES: u32 = 65;
+
+const WORD: u32 = 64;
+
+// What a run of ones leaves in the lowest places of a word that is turned over; no digit reaches them.
+const LOWEST: u64 = 63;
+
+// The way of `code_of` back: the first bit closes the run, the tail stands behind it, and both are moved down by the length of the run.
+pub fn step_of(n: u32, es: u32, c: Coded) -> u32
+    requires { ⌜ (Format n es) × (Fits es (c .code)) ⌝ }
+    ensures { λ r. ⌜ StepOf n es c r ⌝ }
+{
+    let lost = c.lost;
+    let word = c.code * power(TO_REGIME - es);
+    let ones = word / FIRST;
+    let z = flipped(ones, word);
+    let closed = FIRST + z % REGIME * TO_TAIL;
+    let pattern = flipped(ones, closed / power(WORD - (z / REGIME) as u32));
+    let unit = power(PLACES - n);
+    let gap = (LOWEST < pattern % unit) | lost;
+    2 * (pattern / unit) as u32 + gap as u32
+}

@@ -1,0 +1,338 @@
+-- The answer for two plain ranges reaches from the exact result of two of their ends to that of the other two: all ends are posits above 0, so there is
+-- no limit missing, no sign and no empty answer, and the tile of a cell above that of 0 is its distance from the cells up to 0.
+use mathlib.Core.Path.{_≡_, refl, sym, ap, ap₂, _∙_}
+use mathlib.Core.Bool.{Bool, true, false, Bool·beq}
+use mathlib.Core.Logic.{_⊎_, inl, inr}
+use Prim.Native.Nat.{ℕ, _+_, _-_, _*_, _/_, _%_, _^_, _≤_, _<_}
+use native.Mathlib.Nat.{mod-lt}
+use native.Mathlib.Omega.{arith}
+use native.Mathlib.Decide.{decLt}
+use lib.Dec.{eqb}
+use lib.IntN.{pos}
+use lib.Pow.{pow-pos}
+use Rattle.exact.specs.Fraction.{Fraction, _≈_, _<ᶠ_, whole, _+ᶠ_}
+use Rattle.exact.proofs.Order.{≈-<ᶠ, ≈-sym, ≤ᶠ-of-<ᶠ}
+use Rattle.exact.proofs.Powers.{parity}
+use Rattle.exact.proofs.Product.{product-above-above}
+use Rattle.exact.proofs.Quotient.{quotient-above-above}
+use Rattle.exact.proofs.Sum.{+ᶠ-mono-<, +ᶠ-idl}
+use Rattle.bound.specs.Fractions.{same-of-≈, less-of-<ᶠ}
+use Rattle.bound.specs.Cell.{cell}
+use Rattle.bound.proofs.CellEnd.{cell-has-number}
+use Rattle.bound.proofs.Extent.{NoMember}
+use Rattle.posit.specs.Arithmetic.{divide}
+use Rattle.posit.specs.Format.{Format, nar}
+use Rattle.posit.specs.Parts.{chosenBy}
+use Rattle.posit.specs.Value.{value}
+use Rattle.posit.proofs.Ends.{value-positive}
+use Rattle.posit.proofs.Mirror.{power-wider}
+use Rattle.posit.proofs.Patterns.{some-bit}
+use Rattle.range.specs.declared.inner.span.Span.{Span}
+use Rattle.range.specs.Word.{tiles, startTile, endTile, wordOf}
+use Rattle.range.specs.Member.{Member}
+use Rattle.range.specs.Smallest.{Result}
+use Rattle.range.specs.Spans.{topCell, startTileAt, endTileAt, cellsOf, wordAt}
+use Rattle.range.specs.Computed.{cellOf, answerOf}
+use Rattle.range.specs.Cells.{sumStart, sumEnd, sumCells}
+use Rattle.range.specs.Signs.{Edge, resultOf, resultCell, startEdge, endEdge, firstCell, lastCell, turnedCells, pickSpan, positiveSome}
+use Rattle.range.specs.OneSign.{magnitudes, withSigns}
+use Rattle.range.specs.Plain.{isPlain}
+use Rattle.range.proofs.Grid.{posits, once-over, half}
+use Rattle.range.proofs.Places.{top-cell}
+use Rattle.range.proofs.Tiles.{half-large, end-tile-is}
+use Rattle.range.proofs.WordAt.{word-at-some, word-at-none}
+use Rattle.range.proofs.Members.{member-cells}
+use Rattle.range.proofs.Computed.{cell-computed}
+use Rattle.range.proofs.Empty.{Usable, computed-empty-word-iff, no-result-iff}
+use Rattle.range.proofs.CellFrom.{cell-bounded}
+use Rattle.range.proofs.ZeroCell.{above-zero, zero-below}
+use Rattle.range.proofs.SumCells.{start-found, end-found}
+use Rattle.range.proofs.SumRange.{sum-word, sum-answer}
+use Rattle.range.proofs.SignedCells.{product-answer, quotient-answer}
+use Rattle.range.proofs.ReachedCells.{start-limited, end-limited, first-limited, last-limited}
+use Rattle.range.proofs.OneSigned.{above-magnitudes, products-of-magnitudes, quotients-of-magnitudes}
+use Rattle.range.proofs.PlainCells.{PlainTiles, firstOf, lastOf, plain-tiles, plain-cells, real-of-plain, plain-one-sign, plain-above, cells-ordered, last-there, start-posit-is, end-posit-is, start-mark-is, end-mark-is}
+
+-- ---- two closed ends, as a mark
+abbrev pub bothClosed : ℕ → ℕ → ℕ
+bothClosed s t = (1 - s % 2) * (1 - t % 2)
+
+closed-by : (s t : ℕ) → (bothClosed s t ≡ 0) ⊎ (bothClosed s t ≡ 1)
+closed-by s t = by (parity s) (parity t)
+  where
+    by : (s % 2 ≡ 0) ⊎ (s % 2 ≡ 1) → (t % 2 ≡ 0) ⊎ (t % 2 ≡ 1) → (bothClosed s t ≡ 0) ⊎ (bothClosed s t ≡ 1)
+    by (inl e) (inl f) = inr (rw (e, f) refl)
+    by (inl e) (inr f) = inl (rw (e, f) refl)
+    by (inr e) (inl f) = inl (rw (e, f) refl)
+    by (inr e) (inr f) = inl (rw (e, f) refl)
+
+pub closed-small : (s t : ℕ) → bothClosed s t ≤ 1
+closed-small s t = by (closed-by s t)
+  where
+    by : (bothClosed s t ≡ 0) ⊎ (bothClosed s t ≡ 1) → bothClosed s t ≤ 1
+    by (inl e) = omega arith
+    by (inr e) = omega arith
+
+-- the mark that an open end adds
+pub mark-small : (s t c : ℕ) → (1 - c % 2) * (1 - bothClosed s t) ≤ 1
+mark-small s t c = by (closed-by s t)
+  where
+    by : (bothClosed s t ≡ 0) ⊎ (bothClosed s t ≡ 1) → (1 - c % 2) * (1 - bothClosed s t) ≤ 1
+    by (inl e) = rw e (omega arith)
+    by (inr e) = rw e (omega arith)
+
+-- the first and the last cell of the results at two ends, by the cell of their exact result
+abbrev pub firstFrom : ℕ → ℕ → ℕ → ℕ
+firstFrom s t c = chosenBy (bothClosed s t) (2 * ((c + 1) / 2)) c
+
+abbrev pub lastFrom : ℕ → ℕ → ℕ → ℕ
+lastFrom s t c = chosenBy (bothClosed s t) (2 * (c / 2)) c
+
+-- ---- the tiles of a cell are tiles of the format
+pub start-tile-fits : (n c : ℕ) → startTileAt n c < tiles n
+start-tile-fits n c = mod-lt (c + 1 + 2 ^ n) (pow-pos (n + 1))
+
+pub end-tile-fits : (n c : ℕ) → 3 ≤ n → endTileAt n c < tiles n
+end-tile-fits n c wide = rw (← end-tile-is n refl wide c, power-wider n) (mod-lt (c + 3 - 2 * (c % 2) + 2 ^ n) (omega (arith, half-large wide)))
+
+-- ---- the tiles of a cell above that of 0
+module _ (n : ℕ) (wide : 3 ≤ n) {c : ℕ} (above : 2 ^ n ≤ c) (there : c ≤ topCell n) where
+  start-tile-above : startTileAt n c ≡ c + 1 - 2 ^ n
+  start-tile-above =
+      once-over {x = c + 1 + 2 ^ n} {m = tiles n} (omega (arith, above, power-wider n)) (omega (arith, there, power-wider n, half-large wide))
+      ∙ omega (arith, above, power-wider n)
+
+  end-tile-above : endTileAt n c ≡ c + 3 - 2 * (c % 2) - 2 ^ n
+  end-tile-above =
+      sym (end-tile-is n refl wide c)
+      ∙ once-over {x = c + 3 - 2 * (c % 2) + 2 ^ n} {m = 2 * 2 ^ n} (omega (arith, above)) (omega (arith, there, power-wider n, half-large wide))
+      ∙ omega (arith, above)
+
+module _ (n : ℕ) (wide : 3 ≤ n) (s t : ℕ) {c : ℕ} (above : 2 ^ n ≤ c) (there : c ≤ topCell n) where
+  abbrev step : ℕ
+  step = c + 1 - 2 ^ n
+
+  even : 2 ^ n ≡ 2 * nar n
+  even = half n (some-bit n wide)
+
+  step-mark : step % 2 ≡ 1 - c % 2
+  step-mark = omega (arith, even, above)
+
+  pub start-tile-found : step + (1 - step % 2) * (1 - bothClosed s t) ≡ startTileAt n (firstFrom s t c)
+  start-tile-found = by (closed-by s t)
+    where
+      by : (bothClosed s t ≡ 0) ⊎ (bothClosed s t ≡ 1) → step + (1 - step % 2) * (1 - bothClosed s t) ≡ startTileAt n (firstFrom s t c)
+      by (inl e) =
+          rw e (omega (arith, start-tile-above n wide {c = 2 * ((c + 1) / 2)} (omega (arith, above)) (omega (arith, there, top-cell n wide)), even, above))
+      by (inr e) = rw e (omega (arith, start-tile-above n wide above there))
+
+  pub end-tile-found : step + 2 * (step % 2) + (1 - step % 2) * (1 - bothClosed s t) ≡ endTileAt n (lastFrom s t c)
+  end-tile-found = by (closed-by s t)
+    where
+      by : (bothClosed s t ≡ 0) ⊎ (bothClosed s t ≡ 1) → step + 2 * (step % 2) + (1 - step % 2) * (1 - bothClosed s t) ≡ endTileAt n (lastFrom s t c)
+      by (inl e) =
+          let d : 2 * (c / 2) % 2 ≡ 0 = omega arith in
+          rw e (omega (arith, step-mark, above, d) ∙ sym (end-tile-above n wide {c = 2 * (c / 2)} (omega (arith, above, even)) (omega (arith, there))))
+      by (inr e) = rw e (omega (arith, end-tile-above n wide above there, even, above))
+
+-- ---- the cell of a result above 0
+module _ (n es : ℕ) (wide : 3 ≤ n) where
+  above-cell : {x : Fraction} → whole (pos 0) <ᶠ x → 2 ^ n ≤ cellOf n es x
+  above-cell {x} h = rw (cell-computed n es wide x) (above-zero n es wide (less-of-<ᶠ h))
+
+  module _ {p q : ℕ} (f : (0 < p) × (p < nar n)) (g : (0 < q) × (q < nar n)) where
+    left-above : whole (pos 0) <ᶠ value n es p
+    left-above = value-positive n es (f .0) (f .1)
+
+    right-above : whole (pos 0) <ᶠ value n es q
+    right-above = value-positive n es (g .0) (g .1)
+
+    result-above : (divide : Bool) → whole (pos 0) <ᶠ resultOf divide (value n es p) (value n es q)
+    result-above true = quotient-above-above right-above left-above
+    result-above false = product-above-above left-above right-above
+
+    sum-above : whole (pos 0) <ᶠ (value n es p +ᶠ value n es q)
+    sum-above = ≈-<ᶠ (≈-sym (+ᶠ-idl (whole (pos 0)))) (+ᶠ-mono-< (≤ᶠ-of-<ᶠ left-above) right-above)
+
+    pub result-cell-above : (divide : Bool) {c : ℕ} → c ≡ resultCell n es divide p q → (2 ^ n ≤ c) × (c ≤ topCell n)
+    result-cell-above divide e = rw e (above-cell (result-above divide), cell-bounded n es wide (resultOf divide (value n es p) (value n es q)))
+
+    pub sum-cell-above : {c : ℕ} → c ≡ cellOf n es (value n es p +ᶠ value n es q) → (2 ^ n ≤ c) × (c ≤ topCell n)
+    sum-cell-above e = rw e (above-cell sum-above, cell-bounded n es wide (value n es p +ᶠ value n es q))
+
+  -- ---- an answer is not empty
+  some-member : (w : ℕ) → isPlain n w ≡ true → (x : Fraction) × (2 ^ n ≤ cell (posits n es wide) x) × Member n es w x
+  some-member w h =
+      let r = real-of-plain n w wide h in
+      let p = plain-tiles n w h in
+      let e = plain-cells n w wide h in
+      let (x, i) = cell-has-number (posits n es wide) (firstOf n (startTile n w)) (omega (arith, cells-ordered n wide p, last-there n wide p, top-cell n wide)) in
+      (x, omega (arith, i, p), member-cells n es wide r x .1 (rw e (omega (arith, i, cells-ordered n wide p))))
+
+  module _ (op a b : ℕ) (known : op ≤ divide) (h : isPlain n a ≡ true) (k : isPlain n b ≡ true) where
+    usable : (y : Fraction) → 2 ^ n ≤ cell (posits n es wide) y → Member n es b y → Usable n es op b y
+    usable y l m = record { member = m; divisor = λ e z. zero-below n es wide l (same-of-≈ z .0) }
+
+    some-result : ¬ NoMember (Result n es op a b)
+    some-result none = by (no-result-iff n es a b op known .0 none)
+      where
+        by : NoMember (Member n es a) ⊎ NoMember (Usable n es op b) → ⊥
+        by (inl f) = let (x, l, m) = some-member a h in f x m
+        by (inr f) = let (y, l, m) = some-member b k in f y (usable y l m)
+
+    tiles-answer : (lo hi : ℕ) → answerOf n es op a b ≡ wordAt n (record { lo = lo; hi = hi })
+        → {x y w : ℕ} → x ≡ startTileAt n lo → y ≡ endTileAt n hi → w ≡ wordOf n x y → w ≡ answerOf n es op a b
+    tiles-answer lo hi e i j g = g ∙ ap₂ (wordOf n) i j ∙ by (decLt hi lo)
+      where
+        by : Dec (hi < lo) → wordOf n (startTileAt n lo) (endTileAt n hi) ≡ answerOf n es op a b
+        by (yes l) = absurd (some-result (computed-empty-word-iff n es op a b wide known .0 (e ∙ word-at-none n (record { lo = lo; hi = hi }) l)))
+        by (no l) = sym (e ∙ word-at-some n (record { lo = lo; hi = hi }) (omega arith))
+
+-- ---- the ends of plain ranges
+-- a limit at the posit of a tile, in the cell c
+record EdgeAt (x : Edge) (c t : ℕ) : Type 0 where
+  limited : x .unlimited ≡ false
+  closed : x .closed ≡ eqb (c % 2) 1
+  mark : c % 2 ≡ 1 - t % 2
+  posit : t / 2 ≡ x .posit
+
+module _ (n : ℕ) (wide : 3 ≤ n) {s t : ℕ} (p : PlainTiles n s t) where
+  start-edge : EdgeAt (startEdge n (firstOf n s)) (firstOf n s) s
+  start-edge =
+      record {
+        limited = start-limited n (firstOf n s) refl (omega (arith, p));
+        closed = refl;
+        mark = start-mark-is n wide p;
+        posit = start-posit-is n wide p;
+      }
+
+  end-edge : EdgeAt (endEdge n (lastOf n t)) (lastOf n t) t
+  end-edge =
+      record {
+        limited = end-limited n (lastOf n t) refl (omega (arith, last-there n wide p));
+        closed = refl;
+        mark = end-mark-is n wide p;
+        posit = end-posit-is n wide p;
+      }
+
+module _ (n es : ℕ) (divide : Bool) {x y : Edge} {c d s t : ℕ} (i : EdgeAt x c s) (j : EdgeAt y d t) {r : ℕ} (e : r ≡ resultCell n es divide (s / 2) (t / 2)) where
+  first-between : firstFrom s t r ≡ firstCell n es divide x y
+  first-between =
+      first-limited n es divide x y (i .limited) (j .limited) c d (i .closed) (j .closed) (e ∙ ap₂ (resultCell n es divide) (i .posit) (j .posit))
+      (ap₂ (λ (p q : ℕ). chosenBy (p * q) (2 * ((r + 1) / 2)) r) (sym (i .mark)) (sym (j .mark)))
+
+  last-between : lastFrom s t r ≡ lastCell n es divide x y
+  last-between =
+      last-limited n es divide x y (i .limited) (j .limited) c d (i .closed) (j .closed) (e ∙ ap₂ (resultCell n es divide) (i .posit) (j .posit))
+      (ap₂ (λ (p q : ℕ). chosenBy (p * q) (2 * (r / 2)) r) (sym (i .mark)) (sym (j .mark)))
+
+-- ---- sums move to the gap beside them
+first-moved : (s t c : ℕ) → c + c % 2 * (1 - bothClosed s t) ≡ firstFrom s t c
+first-moved s t c = by (closed-by s t)
+  where
+    by : (bothClosed s t ≡ 0) ⊎ (bothClosed s t ≡ 1) → c + c % 2 * (1 - bothClosed s t) ≡ firstFrom s t c
+    by (inl e) = rw e (omega arith)
+    by (inr e) = rw e (omega arith)
+
+last-moved : (s t c : ℕ) → c - c % 2 * (1 - bothClosed s t) ≡ lastFrom s t c
+last-moved s t c = by (closed-by s t)
+  where
+    by : (bothClosed s t ≡ 0) ⊎ (bothClosed s t ≡ 1) → c - c % 2 * (1 - bothClosed s t) ≡ lastFrom s t c
+    by (inl e) = rw e (omega arith)
+    by (inr e) = rw e (omega arith)
+
+-- ---- the answers
+-- two plain ranges a and b, with the start tiles s and t and the end tiles u and v
+pub record PlainEnds (n es a b s t u v : ℕ) : Type 0 where
+  pub format : Format n es
+  pub left-plain : isPlain n a ≡ true
+  pub right-plain : isPlain n b ≡ true
+  pub left-start : s ≡ startTile n a
+  pub right-start : t ≡ startTile n b
+  pub left-end : u ≡ endTile n a
+  pub right-end : v ≡ endTile n b
+
+module _ {n es a b s t u v : ℕ} (o : PlainEnds n es a b s t u v) where
+  pub wide : 3 ≤ n
+  wide = o .format .wide-enough
+
+  pub left-tiles : PlainTiles n s u
+  left-tiles = rw (o .left-start, o .left-end) (plain-tiles n a (o .left-plain))
+
+  pub right-tiles : PlainTiles n t v
+  right-tiles = rw (o .right-start, o .right-end) (plain-tiles n b (o .right-plain))
+
+  abbrev left : Span
+  left = record { lo = firstOf n s; hi = lastOf n u }
+
+  abbrev right : Span
+  right = record { lo = firstOf n t; hi = lastOf n v }
+
+  left-cells : cellsOf n a ≡ left
+  left-cells = rw (o .left-start, o .left-end) (plain-cells n a wide (o .left-plain))
+
+  right-cells : cellsOf n b ≡ right
+  right-cells = rw (o .right-start, o .right-end) (plain-cells n b wide (o .right-plain))
+
+  no-signs : (r : Span) → withSigns n (cellsOf n a) (cellsOf n b) r ≡ r
+  no-signs r = ap₂ (λ (p q : Bool). pickSpan (Bool·beq p q) r (turnedCells n r)) (plain-above n a wide (o .left-plain)) (plain-above n b wide (o .right-plain))
+
+  of-magnitudes : (divide : Bool) → positiveSome n es divide (magnitudes n (cellsOf n a)) (magnitudes n (cellsOf n b)) ≡ positiveSome n es divide left right
+  of-magnitudes divide =
+      ap₂ (positiveSome n es divide) (above-magnitudes n (cellsOf n a) (plain-above n a wide (o .left-plain)) ∙ left-cells)
+      (above-magnitudes n (cellsOf n b) (plain-above n b wide (o .right-plain)) ∙ right-cells)
+
+  products-are : answerOf n es 2 a b ≡ wordAt n (positiveSome n es false left right)
+  products-are =
+      product-answer n es wide (real-of-plain n a wide (o .left-plain)) (real-of-plain n b wide (o .right-plain))
+      ∙ ap (wordAt n) (sym (products-of-magnitudes n wide es (plain-one-sign n a wide (o .left-plain)) (plain-one-sign n b wide (o .right-plain))) ∙ no-signs _ ∙ of-magnitudes false)
+
+  quotients-are : answerOf n es 3 a b ≡ wordAt n (positiveSome n es true left right)
+  quotients-are =
+      quotient-answer n es wide (real-of-plain n a wide (o .left-plain)) (real-of-plain n b wide (o .right-plain))
+      ∙ ap (wordAt n) (sym (quotients-of-magnitudes n wide es (plain-one-sign n a wide (o .left-plain)) (plain-one-sign n b wide (o .right-plain))) ∙ no-signs _ ∙ of-magnitudes true)
+
+  module _ {lo hi : ℕ} where
+    pub product-found : lo ≡ resultCell n es false (s / 2) (t / 2) → hi ≡ resultCell n es false (u / 2) (v / 2)
+        → {x y w : ℕ} → x ≡ startTileAt n (firstFrom s t lo) → y ≡ endTileAt n (lastFrom u v hi) → w ≡ wordOf n x y → w ≡ answerOf n es 2 a b
+    product-found e f =
+        tiles-answer n es wide 2 a b (omega arith) (o .left-plain) (o .right-plain) (firstFrom s t lo) (lastFrom u v hi)
+        (products-are
+        ∙ ap (wordAt n) (λ i.
+        record {
+          lo = sym (first-between n es false (start-edge n wide left-tiles) (start-edge n wide right-tiles) e) i;
+          hi = sym (last-between n es false (end-edge n wide left-tiles) (end-edge n wide right-tiles) f) i;
+        }))
+
+    pub quotient-found : lo ≡ resultCell n es true (s / 2) (v / 2) → hi ≡ resultCell n es true (u / 2) (t / 2)
+        → {x y w : ℕ} → x ≡ startTileAt n (firstFrom s v lo) → y ≡ endTileAt n (lastFrom u t hi) → w ≡ wordOf n x y → w ≡ answerOf n es 3 a b
+    quotient-found e f =
+        tiles-answer n es wide 3 a b (omega arith) (o .left-plain) (o .right-plain) (firstFrom s v lo) (lastFrom u t hi)
+        (quotients-are
+        ∙ ap (wordAt n) (λ i.
+        record {
+          lo = sym (first-between n es true (start-edge n wide left-tiles) (end-edge n wide right-tiles) e) i;
+          hi = sym (last-between n es true (end-edge n wide left-tiles) (start-edge n wide right-tiles) f) i;
+        }))
+
+    module _ (e : lo ≡ cellOf n es (value n es (s / 2) +ᶠ value n es (t / 2))) (f : hi ≡ cellOf n es (value n es (u / 2) +ᶠ value n es (v / 2))) where
+      sum-first : firstFrom s t lo ≡ sumStart n es (firstOf n s) (firstOf n t)
+      sum-first =
+          sym (first-moved s t lo)
+          ∙ ap₂ (λ (p q : ℕ). lo + lo % 2 * (1 - p * q)) (sym (start-mark-is n wide left-tiles)) (sym (start-mark-is n wide right-tiles))
+          ∙ start-found n es wide (firstOf n s) (firstOf n t) (start-posit-is n wide left-tiles) (start-posit-is n wide right-tiles) e
+          (omega (arith, left-tiles)) (omega (arith, right-tiles))
+
+      sum-last : lastFrom u v hi ≡ sumEnd n es (lastOf n u) (lastOf n v)
+      sum-last =
+          sym (last-moved u v hi)
+          ∙ ap₂ (λ (p q : ℕ). hi - hi % 2 * (1 - p * q)) (sym (end-mark-is n wide left-tiles)) (sym (end-mark-is n wide right-tiles))
+          ∙ end-found n es wide (lastOf n u) (lastOf n v) (last-there n wide left-tiles) (last-there n wide right-tiles)
+          (end-posit-is n wide left-tiles) (end-posit-is n wide right-tiles) f
+
+      pub sum-found : {x y w : ℕ} → x ≡ startTileAt n (firstFrom s t lo) → y ≡ endTileAt n (lastFrom u v hi) → w ≡ wordOf n x y → w ≡ answerOf n es 0 a b
+      sum-found =
+          tiles-answer n es wide 0 a b (omega arith) (o .left-plain) (o .right-plain) (firstFrom s t lo) (lastFrom u v hi)
+          (sum-answer n es wide (real-of-plain n a wide (o .left-plain)) (real-of-plain n b wide (o .right-plain))
+          ∙ ap₂ (λ (x y : Span). wordAt n (sumCells n es x y)) (left-cells) (right-cells)
+          ∙ sym (sum-word n es wide left right sum-first sum-last (cells-ordered n wide left-tiles) (cells-ordered n wide right-tiles) refl))
