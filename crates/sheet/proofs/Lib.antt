@@ -8,6 +8,7 @@ pub mod Parts
 pub mod FileTests
 pub mod FileLayout
 pub mod Pairs
+pub mod Plains
 pub mod Steps
 pub mod Written
 pub mod Rows

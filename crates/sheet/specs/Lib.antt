@@ -7,3 +7,4 @@ pub mod Depends
 pub mod Exact
 pub mod Working
 pub mod Accepted
+pub mod Plains

@@ -6,9 +6,11 @@ use super::counted::Counted;
 use super::inner::limits::judge_columns;
 use super::inner::pairs::judge_pairs;
 use super::inner::pairs::write_answers;
+use super::inner::plains::takes_plain_way;
+use super::inner::plains::write_plain;
 use posit::answer::DONE;
 
-// One operation on two columns; the answers are written into the lent column from a row on, once every pair has been judged.
+// One operation on two columns; the answers are written into the lent column from a row on, once every pair has been judged, or all words are seen to be plain.
 pub fn combine(
     n: u32,
     es: u32,
@@ -27,6 +29,14 @@ pub fn combine(
             number: limits_number,
             place: limits.place,
             count: 0,
+        };
+    }
+    if takes_plain_way(n, op, left, right) {
+        write_plain(n, es, op, left, right, &mut lent[row..]);
+        return Counted {
+            number: DONE,
+            place: 0,
+            count: left.len() as u32,
         };
     }
     let pairs = judge_pairs(n, es, op, left, right);

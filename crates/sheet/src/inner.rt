@@ -2,4 +2,5 @@
 pub mod layout;
 pub mod limits;
 pub mod pairs;
+pub mod plains;
 pub mod steps;

@@ -1,0 +1,75 @@
+// Columns of plain ranges only: seen in one pass, and answered in another without a test of a single pair.
+ghost use mathlib.Core.Path.{_≡_};
+ghost use mathlib.Core.Bool.{true};
+ghost use mathlib.Core.Logic.{_≢_};
+ghost use mathlib.Core.List.{_++_};
+ghost use Prim.Native.Nat.{_≤_};
+ghost use lib.ListN.{length, drop};
+ghost use Rattle.posit.specs.Format.{Format};
+ghost use Rattle.range.specs.Plain.{isPlain};
+ghost use Rattle.range.specs.Computed.{answerOf};
+ghost use Rattle.sheet.specs.Column.{answersOf};
+ghost use Rattle.sheet.specs.Plains.{allPlain, takesPlainWay};
+use range::inner::plain::is_plain;
+use range::inner::plain_results::plain_product;
+use range::inner::plain_results::plain_quotient;
+use range::inner::plain_results::plain_sum;
+
+const ADD: u8 = 0;
+
+const SUBTRACT: u8 = 1;
+
+const MULTIPLY: u8 = 2;
+
+// Whether every word of both columns is plain.
+pub fn all_plain(n: u32, left: &[u64], right: &[u64]) -> bool
+    requires { ⌜ (n ≤ 16) × (length (now left) ≡ length (now right)) ⌝ }
+    ensures { λ r. ⌜ r ≡ allPlain n (now (left .entry)) (now (right .entry)) ⌝ }
+{
+    let mut i: usize = 0;
+    while i < left.len() {
+        if !is_plain(n, left[i]) {
+            return false;
+        }
+        if !is_plain(n, right[i]) {
+            return false;
+        }
+        i += 1;
+    }
+    true
+}
+
+// Whether the columns can be answered without a test of each pair; the difference of plain ranges may be of either sign.
+pub fn takes_plain_way(n: u32, op: u8, left: &[u64], right: &[u64]) -> bool
+    requires { ⌜ (n ≤ 16) × (length (now left) ≡ length (now right)) ⌝ }
+    ensures { λ r. ⌜ r ≡ takesPlainWay n op (now (left .entry)) (now (right .entry)) ⌝ }
+{
+    op != SUBTRACT && all_plain(n, left, right)
+}
+
+// One pair of plain ranges.
+pub fn plain_answer(n: u32, es: u32, op: u8, a: u64, b: u64) -> u64
+    requires { ⌜ (Format n es) × (op ≤ 3) × (op ≢ 1) × (isPlain n a ≡ true) × (isPlain n b ≡ true) ⌝ }
+    ensures { λ r. ⌜ r ≡ answerOf n es op a b ⌝ }
+{
+    if op == MULTIPLY {
+        return plain_product(n, es, a, b);
+    }
+    if op == ADD {
+        return plain_sum(n, es, a, b);
+    }
+    plain_quotient(n, es, a, b)
+}
+
+// The answers of plain columns, written from the front.
+pub fn write_plain(n: u32, es: u32, op: u8, left: &[u64], right: &[u64], out: &mut [u64])
+    requires { ⌜ (Format n es) × (op ≤ 3) × (length (now left) ≡ length (now right)) × (length (now left) ≤ length (now out)) ⌝ }
+    requires { ⌜ takesPlainWay n op (now left) (now right) ≡ true ⌝ }
+    ensures { λ r. ⌜ now (out .exit) ≡ answersOf n es op (now (left .entry)) (now (right .entry)) ++ drop (length (now (left .entry))) (now (out .entry)) ⌝ }
+{
+    let mut i: usize = 0;
+    while i < left.len() {
+        out[i] = plain_answer(n, es, op, left[i], right[i]);
+        i += 1;
+    }
+}
