@@ -44,5 +44,9 @@ pub mod Readings
 pub mod GoingOut
 pub mod Ends
 pub mod Mixed
+pub mod Marks
 pub mod PlainCells
 pub mod PlainResults
+pub mod AcrossCells
+pub mod AcrossResults
+pub mod Spreading

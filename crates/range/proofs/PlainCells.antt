@@ -2,22 +2,23 @@
 -- above that of 0.
 use mathlib.Core.Path.{_≡_, refl, sym, ap, _∙_, subst}
 use mathlib.Core.Bool.{Bool, true, false, _&&_, true≢false}
-use mathlib.Core.Logic.{_≢_}
+use mathlib.Core.Logic.{_≢_, _⊎_, inl, inr}
 use Prim.Native.Nat.{ℕ, _+_, _-_, _*_, _/_, _%_, _^_, _≤_, _<_}
-use native.Mathlib.Nat.{mod-eq-of-lt, lt-of-lt-of-le}
+use native.Mathlib.Nat.{mod-eq-of-lt, mod-lt, lt-of-lt-of-le}
 use native.Mathlib.Omega.{arith}
 use lib.IntN.{pos}
-use lib.Dec.{leb, ltb}
-use lib.Pow.{pow-mono, shr-lt}
-use borrow.Author.Tests.{ne-eqb, le-leb, lt-leb, leb-true, ltb-true}
+use lib.Dec.{eqb, leb, ltb}
+use lib.Pow.{pow-pos, pow-mono, shr-lt, mod-pow-add}
+use borrow.Author.Tests.{ne-eqb, le-leb, lt-leb, lt-ltb, le-ltb, leb-true, ltb-true}
 use Rattle.exact.specs.Fraction.{whole}
+use Rattle.exact.proofs.Powers.{parity}
 use Rattle.posit.specs.Format.{Format, nar, Finite}
 use Rattle.posit.proofs.Mirror.{power-wider}
 use Rattle.posit.proofs.Patterns.{some-bit}
 use Rattle.range.specs.Word.{tiles, startTile, endTile, openNar}
 use Rattle.range.specs.Member.{Real, isMember}
 use Rattle.range.specs.Spans.{topCell, startCell, endCell, cellsOf}
-use Rattle.range.specs.Plain.{isPlain}
+use Rattle.range.specs.Plain.{isPlain, openZero, PlainStart, PlainEnd}
 use Rattle.range.specs.Signs.{startEdge, endEdge, zeroCell, hasZero}
 use Rattle.range.specs.OneSign.{isAbove, OneSign}
 use Rattle.range.proofs.Grid.{half}
@@ -31,7 +32,7 @@ use Rattle.range.proofs.HasZero.{zero-member}
 
 -- ---- what the test says of the tiles
 pub record PlainTiles (n s t : ℕ) : Type 0 where
-  pub above : 2 ≤ s
+  pub above : 1 ≤ s
   pub ordered : s + 2 * (t % 2) ≤ t
   pub below : t < 2 ^ n
 
@@ -39,9 +40,9 @@ pub plain-tiles : (n w : ℕ) → isPlain n w ≡ true → PlainTiles n (startTi
 plain-tiles n w h =
     let s : ℕ = startTile n w in
     let t : ℕ = endTile n w in
-    let k : _ = second-of (leb 2 s) (leb (s + 2 * (t % 2)) t && ltb t (2 ^ n)) h in
+    let k : _ = second-of (leb 1 s) (leb (s + 2 * (t % 2)) t && ltb t (2 ^ n)) h in
     record {
-      above = leb-true 2 s (first-of (leb 2 s) (leb (s + 2 * (t % 2)) t && ltb t (2 ^ n)) h);
+      above = leb-true 1 s (first-of (leb 1 s) (leb (s + 2 * (t % 2)) t && ltb t (2 ^ n)) h);
       ordered = leb-true (s + 2 * (t % 2)) t (first-of (leb (s + 2 * (t % 2)) t) (ltb t (2 ^ n)) k);
       below = ltb-true t (2 ^ n) (second-of (leb (s + 2 * (t % 2)) t) (ltb t (2 ^ n)) k);
     }
@@ -53,83 +54,95 @@ firstOf n s = 2 ^ n + s - 1
 abbrev pub lastOf : ℕ → ℕ → ℕ
 lastOf n t = 2 ^ n + t - 1 - 2 * (t % 2)
 
-module _ (n : ℕ) (wide : 3 ≤ n) {s t : ℕ} (p : PlainTiles n s t) where
+pub plain-start : {n s t : ℕ} → PlainTiles n s t → PlainStart n s
+plain-start p = record { above = p .above; below = omega (arith, p) }
+
+pub plain-end : {n s t : ℕ} → PlainTiles n s t → PlainEnd n t
+plain-end p = record { above = omega (arith, p); below = p .below }
+
+module _ (n : ℕ) (wide : 3 ≤ n) where
   even : 2 ^ n ≡ 2 * nar n
   even = half n (some-bit n wide)
-
-  -- ---- cells
-  first-turn : (s + 2 ^ n) % tiles n ≡ s + 2 ^ n
-  first-turn = mod-eq-of-lt (omega (arith, p, power-wider n))
-
-  last-turn : (t + 2 ^ n) % tiles n ≡ t + 2 ^ n
-  last-turn = mod-eq-of-lt (omega (arith, p, power-wider n))
-
-  pub plain-first : startCell n s ≡ firstOf n s
-  plain-first = omega (arith, first-turn)
-
-  pub plain-last : endCell n t ≡ lastOf n t
-  plain-last =
-      rw (ne-eqb t (openNar n) (omega (arith, p, open-half wide)))
-      (omega (arith, last-turn))
-
-  -- ---- the posits and the marks at the ends
-  pub start-posit-fits : (0 < s / 2) × (s / 2 < nar n)
-  start-posit-fits = omega (arith, p, even)
-
-  pub end-posit-fits : (0 < t / 2) × (t / 2 < nar n)
-  end-posit-fits = omega (arith, p, even)
 
   finite : {p : ℕ} → p < nar n → Finite n p
   finite l = record { fits = omega (arith, even); not-nar = omega arith }
 
-  pub start-finite : Finite n (s / 2)
-  start-finite = finite (start-posit-fits .1)
+  -- ---- a start: its cell, its posit and its mark
+  module _ {s : ℕ} (p : PlainStart n s) where
+    first-turn : (s + 2 ^ n) % tiles n ≡ s + 2 ^ n
+    first-turn = mod-eq-of-lt (omega (arith, p, power-wider n))
 
-  pub end-finite : Finite n (t / 2)
-  end-finite = finite (end-posit-fits .1)
+    pub plain-first : startCell n s ≡ firstOf n s
+    plain-first = omega (arith, first-turn)
 
-  pub cells-ordered : firstOf n s ≤ lastOf n t
-  cells-ordered = omega (arith, p)
+    pub start-posit-fits : s ≢ openZero → (0 < s / 2) × (s / 2 < nar n)
+    start-posit-fits d = omega (arith, p, even)
 
-  pub last-there : lastOf n t < topCell n
-  last-there = omega (arith, p, power-wider n, even, end-posit-fits)
+    pub start-finite : Finite n (s / 2)
+    start-finite = finite (omega (arith, p, even))
 
-  pub start-posit-is : s / 2 ≡ startEdge n (firstOf n s) .posit
-  start-posit-is =
-      omega (arith, p) ∙ start-by-count n wide {c = firstOf n s} (omega (arith, p)) (omega (arith, cells-ordered, last-there))
+    pub start-posit-is : s / 2 ≡ startEdge n (firstOf n s) .posit
+    start-posit-is = omega (arith, p) ∙ start-by-count n wide {c = firstOf n s} (omega (arith, p)) (omega (arith, p, power-wider n))
 
-  pub end-posit-is : t / 2 ≡ endEdge n (lastOf n t) .posit
-  end-posit-is = omega (arith, p) ∙ end-by-count n wide {c = lastOf n t} (omega (arith, p)) last-there
+    pub start-mark-is : firstOf n s % 2 ≡ 1 - s % 2
+    start-mark-is = omega (arith, p, even)
 
-  pub start-mark-is : firstOf n s % 2 ≡ 1 - s % 2
-  start-mark-is = omega (arith, p, even)
+  -- ---- an end
+  module _ {t : ℕ} (p : PlainEnd n t) where
+    last-turn : (t + 2 ^ n) % tiles n ≡ t + 2 ^ n
+    last-turn = mod-eq-of-lt (omega (arith, p, power-wider n))
 
-  pub end-mark-is : lastOf n t % 2 ≡ 1 - t % 2
-  end-mark-is = let d : lastOf n t ≡ 2 * (nar n + t / 2 - 1) + (1 - t % 2) = omega (arith, p, even) in omega (arith, d)
+    pub plain-last : endCell n t ≡ lastOf n t
+    plain-last =
+        rw (ne-eqb t (openNar n) (omega (arith, p, open-half wide)))
+        (omega (arith, last-turn))
+
+    pub end-posit-fits : (0 < t / 2) × (t / 2 < nar n)
+    end-posit-fits = omega (arith, p, even)
+
+    pub last-there : lastOf n t < topCell n
+    last-there = omega (arith, p, power-wider n, even, end-posit-fits)
+
+    pub end-posit-is : t / 2 ≡ endEdge n (lastOf n t) .posit
+    end-posit-is = omega (arith, p) ∙ end-by-count n wide {c = lastOf n t} (omega (arith, p)) last-there
+
+    pub end-mark-is : lastOf n t % 2 ≡ 1 - t % 2
+    end-mark-is = let d : lastOf n t ≡ 2 * (nar n + t / 2 - 1) + (1 - t % 2) = omega (arith, p, even) in omega (arith, d)
+
+-- ---- both
+pub cells-ordered : {n s t : ℕ} → PlainTiles n s t → firstOf n s ≤ lastOf n t
+cells-ordered p = omega (arith, p)
 
 -- ---- a plain word
 module _ (n w : ℕ) (wide : 3 ≤ n) (h : isPlain n w ≡ true) where
   abbrev here : PlainTiles n (startTile n w) (endTile n w)
   here = plain-tiles n w h
 
+  start-here : startCell n (startTile n w) ≡ firstOf n (startTile n w)
+  start-here = plain-first n wide (plain-start here)
+
+  end-here : endCell n (endTile n w) ≡ lastOf n (endTile n w)
+  end-here = plain-last n wide (plain-end here)
+
+  pub plain-between : cellsOf n w ≡ record { lo = startCell n (startTile n w); hi = endCell n (endTile n w) }
+  plain-between = between-some n (startTile n w) (endTile n w) (omega (arith, start-here, end-here, cells-ordered here))
+
   pub plain-cells : cellsOf n w ≡ record { lo = firstOf n (startTile n w); hi = lastOf n (endTile n w) }
-  plain-cells =
-      between-some n (startTile n w) (endTile n w) (omega (arith, plain-first n wide here, plain-last n wide here, cells-ordered n wide here))
-      ∙ (λ i. record { lo = plain-first n wide here i; hi = plain-last n wide here i })
+  plain-cells = plain-between ∙ (λ i. record { lo = start-here i; hi = end-here i })
 
   pub real-of-plain : Real n w
   real-of-plain =
       subst (λ (v : ℕ). Real n v) (word-of-tiles n w)
       (real-word n wide {s = startTile n w} {e = endTile n w} (omega (arith, here, power-wider n)) (omega (arith, here, power-wider n))
       (omega (arith, here, closed-half wide)) (omega (arith, here, closed-half wide))
-      (λ i l. absurd (omega (arith, l, plain-first n wide here, plain-last n wide here, cells-ordered n wide here))))
+      (λ i l. absurd (omega (arith, l, start-here, end-here, cells-ordered here))))
 
   pub plain-one-sign : OneSign n (cellsOf n w)
   plain-one-sign =
       rw plain-cells
       (record {
-        there = omega (arith, last-there n wide here);
-        some = cells-ordered n wide here;
+        there = omega (arith, last-there n wide (plain-end here));
+        some = cells-ordered here;
         one-sign = rw (le-leb (2 ^ n) (firstOf n (startTile n w)) (omega (arith, here)));
       })
 
@@ -149,6 +162,20 @@ plain-no-zero {n} {es} w f h =
 pub start-tile-room : (n : ℕ) {w all : ℕ} → w < 2 ^ 64 → all ≡ tiles n → w / all < 2 ^ 63
 start-tile-room n h e = rw e (shr-lt 63 (n + 1) (lt-of-lt-of-le h (pow-mono {i = 64} {j = 63 + (n + 1)} (omega arith))))
 
+-- the last bit above the n lower ones says in which half of the tiles the end is
+upper-half : (n w : ℕ) → eqb (w / 2 ^ n % 2) 0 ≡ ltb (endTile n w) (2 ^ n)
+upper-half n w = by (parity (w / 2 ^ n))
+  where
+    parts : endTile n w ≡ w / 2 ^ n % 2 * 2 ^ n + w % 2 ^ n
+    parts = ap (λ (k : ℕ). w % 2 ^ k) {x = n + 1} {y = 1 + n} (omega arith) ∙ mod-pow-add w 1 n
+
+    rest : w % 2 ^ n < 2 ^ n
+    rest = mod-lt w (pow-pos n)
+
+    by : (w / 2 ^ n % 2 ≡ 0) ⊎ (w / 2 ^ n % 2 ≡ 1) → eqb (w / 2 ^ n % 2) 0 ≡ ltb (endTile n w) (2 ^ n)
+    by (inl e) = rw e (sym (lt-ltb (endTile n w) (2 ^ n) (omega (arith, rw e at parts, rest))))
+    by (inr e) = rw e (sym (le-ltb (endTile n w) (2 ^ n) (omega (arith, rw e at parts, rest))))
+
 third-decides : (x y z : Bool) {b : Bool} → b ≡ (x && y) → b ≡ true → z ≡ (x && (y && z))
 third-decides true true z e f = refl
 third-decides true false z e f = absurd (true≢false (sym f ∙ e))
@@ -160,15 +187,15 @@ first-two-fail true false z e f = e
 first-two-fail false y z e f = e
 
 module _ (s t : ℕ) {b : Bool} where
-  pub order-tested : 2 ≤ s → b ≡ leb (s + 2 * (t % 2)) t → b ≡ (leb 2 s && leb (s + 2 * (t % 2)) t)
-  order-tested h e = rw (le-leb 2 s h) e
+  pub order-tested : 1 ≤ s → b ≡ leb (s + 2 * (t % 2)) t → b ≡ (leb 1 s && leb (s + 2 * (t % 2)) t)
+  order-tested h e = rw (le-leb 1 s h) e
 
-  pub start-refused : s < 2 → b ≡ leb 2 s → b ≡ (leb 2 s && leb (s + 2 * (t % 2)) t)
-  start-refused h e = e ∙ rw (lt-leb 2 s h)
+  pub start-refused : s < 1 → b ≡ leb 1 s → b ≡ (leb 1 s && leb (s + 2 * (t % 2)) t)
+  start-refused h e = e ∙ rw (lt-leb 1 s h)
 
-  module _ (e : b ≡ (leb 2 s && leb (s + 2 * (t % 2)) t)) (n w : ℕ) (i : s ≡ startTile n w) (j : t ≡ endTile n w) where
-    pub end-tested : {all : ℕ} → all ≡ 2 ^ n → b ≡ true → ltb t all ≡ isPlain n w
-    end-tested {all} k f = third-decides (leb 2 s) (leb (s + 2 * (t % 2)) t) (ltb t all) e f ∙ rw (i, j, k)
+  module _ (e : b ≡ (leb 1 s && leb (s + 2 * (t % 2)) t)) (n w : ℕ) (i : s ≡ startTile n w) (j : t ≡ endTile n w) where
+    pub end-tested : {all : ℕ} → all ≡ 2 ^ n → b ≡ true → eqb (w / all % 2) 0 ≡ isPlain n w
+    end-tested {all} k f = third-decides (leb 1 s) (leb (s + 2 * (t % 2)) t) (eqb (w / all % 2) 0) e f ∙ rw (i, j, k, upper-half n w)
 
     pub not-plain : b ≡ false → b ≡ isPlain n w
-    not-plain f = first-two-fail (leb 2 s) (leb (s + 2 * (t % 2)) t) (ltb t (2 ^ n)) e f ∙ rw (i, j)
+    not-plain f = first-two-fail (leb 1 s) (leb (s + 2 * (t % 2)) t) (ltb t (2 ^ n)) e f ∙ rw (i, j)

@@ -1,15 +1,17 @@
--- The answer for two plain ranges reaches from the exact result of two of their ends to that of the other two: all ends are posits above 0, so there is
--- no limit missing, no sign and no empty answer, and the tile of a cell above that of 0 is its distance from the cells up to 0.
+-- The answer for two plain ranges reaches from the exact result of two of their ends to that of the other two: there is no sign and no empty answer, the
+-- only limit that may be missing is a start at the open 0, and the tile of a cell above that of 0 is its distance from the cells up to 0.
 use mathlib.Core.Path.{_≡_, refl, sym, ap, ap₂, _∙_}
 use mathlib.Core.Bool.{Bool, true, false, Bool·beq}
-use mathlib.Core.Logic.{_⊎_, inl, inr}
+use mathlib.Core.Logic.{_≢_, _⊎_, inl, inr}
 use Prim.Native.Nat.{ℕ, _+_, _-_, _*_, _/_, _%_, _^_, _≤_, _<_}
 use native.Mathlib.Nat.{mod-lt}
 use native.Mathlib.Omega.{arith}
 use native.Mathlib.Decide.{decLt}
+use lib.Bits.{bitOr}
 use lib.Dec.{eqb}
 use lib.IntN.{pos}
 use lib.Pow.{pow-pos}
+use borrow.Author.Tests.{eq-eqb}
 use Rattle.exact.specs.Fraction.{Fraction, _≈_, _<ᶠ_, whole, _+ᶠ_}
 use Rattle.exact.proofs.Order.{≈-<ᶠ, ≈-sym, ≤ᶠ-of-<ᶠ}
 use Rattle.exact.proofs.Powers.{parity}
@@ -31,27 +33,29 @@ use Rattle.range.specs.declared.inner.span.Span.{Span}
 use Rattle.range.specs.Word.{tiles, startTile, endTile, wordOf}
 use Rattle.range.specs.Member.{Member}
 use Rattle.range.specs.Smallest.{Result}
-use Rattle.range.specs.Spans.{topCell, startTileAt, endTileAt, cellsOf, wordAt}
+use Rattle.range.specs.Numbered.{numberOf}
+use Rattle.range.specs.Spans.{topCell, startCell, endCell, startTileAt, endTileAt, cellsOf, wordAt}
 use Rattle.range.specs.Computed.{cellOf, answerOf}
 use Rattle.range.specs.Cells.{sumStart, sumEnd, sumCells}
 use Rattle.range.specs.Signs.{Edge, resultOf, resultCell, startEdge, endEdge, firstCell, lastCell, turnedCells, pickSpan, positiveSome}
 use Rattle.range.specs.OneSign.{magnitudes, withSigns}
-use Rattle.range.specs.Plain.{isPlain}
-use Rattle.range.proofs.Grid.{posits, once-over, half}
+use Rattle.range.specs.Plain.{isPlain, openZero, PlainStart, PlainEnd}
+use Rattle.range.proofs.Grid.{posits, once-over, half, number-below}
 use Rattle.range.proofs.Places.{top-cell}
-use Rattle.range.proofs.Tiles.{half-large, end-tile-is}
+use Rattle.range.proofs.Tiles.{half-large, open-half, end-tile-is}
 use Rattle.range.proofs.WordAt.{word-at-some, word-at-none}
 use Rattle.range.proofs.Members.{member-cells}
 use Rattle.range.proofs.Computed.{cell-computed}
 use Rattle.range.proofs.Empty.{Usable, computed-empty-word-iff, no-result-iff}
 use Rattle.range.proofs.CellFrom.{cell-bounded}
 use Rattle.range.proofs.ZeroCell.{above-zero, zero-below}
-use Rattle.range.proofs.SumCells.{start-found, end-found}
+use Rattle.range.proofs.SumCells.{zero-left, zero-right, start-found, end-found}
 use Rattle.range.proofs.SumRange.{sum-word, sum-answer}
 use Rattle.range.proofs.SignedCells.{product-answer, quotient-answer}
-use Rattle.range.proofs.ReachedCells.{start-limited, end-limited, first-limited, last-limited}
+use Rattle.range.proofs.ReachedCells.{start-limited, start-unlimited, end-limited, first-limited, first-no-left, first-no-right, last-limited, last-no-right}
 use Rattle.range.proofs.OneSigned.{above-magnitudes, products-of-magnitudes, quotients-of-magnitudes}
-use Rattle.range.proofs.PlainCells.{PlainTiles, firstOf, lastOf, plain-tiles, plain-cells, real-of-plain, plain-one-sign, plain-above, cells-ordered, last-there, start-posit-is, end-posit-is, start-mark-is, end-mark-is}
+use Rattle.range.proofs.Marks.{open-mark, with-mark}
+use Rattle.range.proofs.PlainCells.{PlainTiles, firstOf, lastOf, plain-tiles, plain-start, plain-end, plain-first, plain-last, plain-between, plain-cells, real-of-plain, plain-one-sign, plain-above, cells-ordered, last-there, start-finite, start-posit-is, end-posit-is, start-mark-is, end-mark-is}
 
 -- ---- two closed ends, as a mark
 abbrev pub bothClosed : ℕ → ℕ → ℕ
@@ -66,20 +70,16 @@ closed-by s t = by (parity s) (parity t)
     by (inr e) (inl f) = inl (rw (e, f) refl)
     by (inr e) (inr f) = inl (rw (e, f) refl)
 
+open-either : (s t : ℕ) → (s % 2 ≡ 1) ⊎ (t % 2 ≡ 1) → bothClosed s t ≡ 0
+open-either s t (inl e) = rw e (omega arith)
+open-either s t (inr e) = rw e (omega arith)
+
 pub closed-small : (s t : ℕ) → bothClosed s t ≤ 1
 closed-small s t = by (closed-by s t)
   where
     by : (bothClosed s t ≡ 0) ⊎ (bothClosed s t ≡ 1) → bothClosed s t ≤ 1
     by (inl e) = omega arith
     by (inr e) = omega arith
-
--- the mark that an open end adds
-pub mark-small : (s t c : ℕ) → (1 - c % 2) * (1 - bothClosed s t) ≤ 1
-mark-small s t c = by (closed-by s t)
-  where
-    by : (bothClosed s t ≡ 0) ⊎ (bothClosed s t ≡ 1) → (1 - c % 2) * (1 - bothClosed s t) ≤ 1
-    by (inl e) = rw e (omega arith)
-    by (inr e) = rw e (omega arith)
 
 -- the first and the last cell of the results at two ends, by the cell of their exact result
 abbrev pub firstFrom : ℕ → ℕ → ℕ → ℕ
@@ -102,7 +102,7 @@ module _ (n : ℕ) (wide : 3 ≤ n) {c : ℕ} (above : 2 ^ n ≤ c) (there : c �
       once-over {x = c + 1 + 2 ^ n} {m = tiles n} (omega (arith, above, power-wider n)) (omega (arith, there, power-wider n, half-large wide))
       ∙ omega (arith, above, power-wider n)
 
-  end-tile-above : endTileAt n c ≡ c + 3 - 2 * (c % 2) - 2 ^ n
+  pub end-tile-above : endTileAt n c ≡ c + 3 - 2 * (c % 2) - 2 ^ n
   end-tile-above =
       sym (end-tile-is n refl wide c)
       ∙ once-over {x = c + 3 - 2 * (c % 2) + 2 ^ n} {m = 2 * 2 ^ n} (omega (arith, above)) (omega (arith, there, power-wider n, half-large wide))
@@ -118,17 +118,26 @@ module _ (n : ℕ) (wide : 3 ≤ n) (s t : ℕ) {c : ℕ} (above : 2 ^ n ≤ c) 
   step-mark : step % 2 ≡ 1 - c % 2
   step-mark = omega (arith, even, above)
 
-  pub start-tile-found : step + (1 - step % 2) * (1 - bothClosed s t) ≡ startTileAt n (firstFrom s t c)
-  start-tile-found = by (closed-by s t)
+  open-joined : (x : ℕ) → bitOr x (bitOr s t % 2) ≡ x + (1 - x % 2) * (1 - bothClosed s t)
+  open-joined x = with-mark x (bitOr s t % 2) (omega arith) ∙ ap (λ (u : ℕ). x + (1 - x % 2) * u) (open-mark s t)
+
+  pub start-tile-found : bitOr step (bitOr s t % 2) ≡ startTileAt n (firstFrom s t c)
+  start-tile-found = open-joined step ∙ by (closed-by s t)
     where
       by : (bothClosed s t ≡ 0) ⊎ (bothClosed s t ≡ 1) → step + (1 - step % 2) * (1 - bothClosed s t) ≡ startTileAt n (firstFrom s t c)
       by (inl e) =
           rw e (omega (arith, start-tile-above n wide {c = 2 * ((c + 1) / 2)} (omega (arith, above)) (omega (arith, there, top-cell n wide)), even, above))
       by (inr e) = rw e (omega (arith, start-tile-above n wide above there))
 
-  pub end-tile-found : step + 2 * (step % 2) + (1 - step % 2) * (1 - bothClosed s t) ≡ endTileAt n (lastFrom s t c)
-  end-tile-found = by (closed-by s t)
+  pub end-tile-found : bitOr (step + 2 * (step % 2)) (bitOr s t % 2) ≡ endTileAt n (lastFrom s t c)
+  end-tile-found =
+      open-joined (step + 2 * (step % 2))
+      ∙ ap (λ (k : ℕ). step + 2 * (step % 2) + (1 - k) * (1 - bothClosed s t)) (two-more step)
+      ∙ by (closed-by s t)
     where
+      two-more : (x : ℕ) → (x + 2 * (x % 2)) % 2 ≡ x % 2
+      two-more x = omega arith
+
       by : (bothClosed s t ≡ 0) ⊎ (bothClosed s t ≡ 1) → step + 2 * (step % 2) + (1 - step % 2) * (1 - bothClosed s t) ≡ endTileAt n (lastFrom s t c)
       by (inl e) =
           let d : 2 * (c / 2) % 2 ≡ 0 = omega arith in
@@ -166,8 +175,8 @@ module _ (n es : ℕ) (wide : 3 ≤ n) where
       let r = real-of-plain n w wide h in
       let p = plain-tiles n w h in
       let e = plain-cells n w wide h in
-      let (x, i) = cell-has-number (posits n es wide) (firstOf n (startTile n w)) (omega (arith, cells-ordered n wide p, last-there n wide p, top-cell n wide)) in
-      (x, omega (arith, i, p), member-cells n es wide r x .1 (rw e (omega (arith, i, cells-ordered n wide p))))
+      let (x, i) = cell-has-number (posits n es wide) (firstOf n (startTile n w)) (omega (arith, cells-ordered p, last-there n wide (plain-end p), top-cell n wide)) in
+      (x, omega (arith, i, p), member-cells n es wide r x .1 (rw e (omega (arith, i, cells-ordered p))))
 
   module _ (op a b : ℕ) (known : op ≤ divide) (h : isPlain n a ≡ true) (k : isPlain n b ≡ true) where
     usable : (y : Fraction) → 2 ^ n ≤ cell (posits n es wide) y → Member n es b y → Usable n es op b y
@@ -190,30 +199,52 @@ module _ (n es : ℕ) (wide : 3 ≤ n) where
 
 -- ---- the ends of plain ranges
 -- a limit at the posit of a tile, in the cell c
-record EdgeAt (x : Edge) (c t : ℕ) : Type 0 where
-  limited : x .unlimited ≡ false
-  closed : x .closed ≡ eqb (c % 2) 1
-  mark : c % 2 ≡ 1 - t % 2
-  posit : t / 2 ≡ x .posit
+pub record EdgeAt (x : Edge) (c t : ℕ) : Type 0 where
+  pub limited : x .unlimited ≡ false
+  pub closed : x .closed ≡ eqb (c % 2) 1
+  pub mark : c % 2 ≡ 1 - t % 2
+  pub posit : t / 2 ≡ x .posit
 
-module _ (n : ℕ) (wide : 3 ≤ n) {s t : ℕ} (p : PlainTiles n s t) where
-  start-edge : EdgeAt (startEdge n (firstOf n s)) (firstOf n s) s
-  start-edge =
-      record {
+module _ (n : ℕ) (wide : 3 ≤ n) where
+  pub start-edge : {s : ℕ} → PlainStart n s → s ≢ openZero → EdgeAt (startEdge n (startCell n s)) (firstOf n s) s
+  start-edge {s} p d =
+      rw (plain-first n wide p)
+      (record {
         limited = start-limited n (firstOf n s) refl (omega (arith, p));
         closed = refl;
         mark = start-mark-is n wide p;
         posit = start-posit-is n wide p;
-      }
+      })
 
-  end-edge : EdgeAt (endEdge n (lastOf n t)) (lastOf n t) t
-  end-edge =
-      record {
+  pub end-edge : {t : ℕ} → PlainEnd n t → EdgeAt (endEdge n (endCell n t)) (lastOf n t) t
+  end-edge {t} p =
+      rw (plain-last n wide p)
+      (record {
         limited = end-limited n (lastOf n t) refl (omega (arith, last-there n wide p));
         closed = refl;
         mark = end-mark-is n wide p;
         posit = end-posit-is n wide p;
-      }
+      })
+
+  -- a start at the open 0 is no limit
+  no-start : {s : ℕ} → PlainStart n s → s ≡ openZero → startEdge n (startCell n s) .unlimited ≡ true
+  no-start {s} p e = rw (plain-first n wide p) (start-unlimited n (firstOf n s) refl (omega arith))
+
+  first-tile : {c : ℕ} → 2 ^ n ≡ c → openZero ≡ startTileAt n c
+  first-tile {c} e = omega (arith, start-tile-above n wide {c = c} (omega arith) (omega (arith, power-wider n, half-large wide)))
+
+  module _ (es : ℕ) (divide : Bool) where
+    pub zero-first : {s : ℕ} → PlainStart n s → s ≡ openZero → (y : Edge) → openZero ≡ startTileAt n (firstCell n es divide (startEdge n (startCell n s)) y)
+    zero-first {s} p e y = first-tile (first-no-left n es divide (startEdge n (startCell n s)) y refl (no-start p e))
+
+    pub zero-second : {x : Edge} {c s t : ℕ} → EdgeAt x c s → PlainStart n t → t ≡ openZero → openZero ≡ startTileAt n (firstCell n es divide x (startEdge n (startCell n t)))
+    zero-second {x} {t = t} i p e = first-tile (first-no-right n es divide x (startEdge n (startCell n t)) refl (i .limited) (no-start p e))
+
+    pub no-limit : {x : Edge} {c s t all : ℕ} → EdgeAt x c s → PlainStart n t → t ≡ openZero → all ≡ 2 ^ n
+        → all + 1 ≡ endTileAt n (lastCell n es divide x (startEdge n (startCell n t)))
+    no-limit {x} {t = t} i p e a =
+        rw (← last-no-right n es divide x (startEdge n (startCell n t)) {r = topCell n} refl (i .limited) (no-start p e), eq-eqb (topCell n) (topCell n) refl, a)
+        (sym (open-half wide))
 
 module _ (n es : ℕ) (divide : Bool) {x y : Edge} {c d s t : ℕ} (i : EdgeAt x c s) (j : EdgeAt y d t) {r : ℕ} (e : r ≡ resultCell n es divide (s / 2) (t / 2)) where
   first-between : firstFrom s t r ≡ firstCell n es divide x y
@@ -225,6 +256,12 @@ module _ (n es : ℕ) (divide : Bool) {x y : Edge} {c d s t : ℕ} (i : EdgeAt x
   last-between =
       last-limited n es divide x y (i .limited) (j .limited) c d (i .closed) (j .closed) (e ∙ ap₂ (resultCell n es divide) (i .posit) (j .posit))
       (ap₂ (λ (p q : ℕ). chosenBy (p * q) (2 * (r / 2)) r) (sym (i .mark)) (sym (j .mark)))
+
+  pub start-between : {w : ℕ} → w ≡ startTileAt n (firstFrom s t r) → w ≡ startTileAt n (firstCell n es divide x y)
+  start-between h = h ∙ ap (startTileAt n) first-between
+
+  pub end-between : {w : ℕ} → w ≡ endTileAt n (lastFrom s t r) → w ≡ endTileAt n (lastCell n es divide x y)
+  end-between h = h ∙ ap (endTileAt n) last-between
 
 -- ---- sums move to the gap beside them
 first-moved : (s t c : ℕ) → c + c % 2 * (1 - bothClosed s t) ≡ firstFrom s t c
@@ -240,6 +277,47 @@ last-moved s t c = by (closed-by s t)
     by : (bothClosed s t ≡ 0) ⊎ (bothClosed s t ≡ 1) → c - c % 2 * (1 - bothClosed s t) ≡ lastFrom s t c
     by (inl e) = rw e (omega arith)
     by (inr e) = rw e (omega arith)
+
+-- ---- the ends of the sums
+module _ (n es : ℕ) (wide : 3 ≤ n) where
+  module _ {s t : ℕ} (p : PlainStart n s) (q : PlainStart n t) where
+    sum-first : {c : ℕ} → c ≡ cellOf n es (value n es (s / 2) +ᶠ value n es (t / 2)) → firstFrom s t c ≡ sumStart n es (startCell n s) (startCell n t)
+    sum-first {c} e =
+        rw (plain-first n wide p, plain-first n wide q)
+        (sym (first-moved s t c)
+        ∙ ap₂ (λ (x y : ℕ). c + c % 2 * (1 - x * y)) (sym (start-mark-is n wide p)) (sym (start-mark-is n wide q))
+        ∙ start-found n es wide (firstOf n s) (firstOf n t) (start-posit-is n wide p) (start-posit-is n wide q) e (omega (arith, p)) (omega (arith, q)))
+
+    pub sums-start : {c w : ℕ} → c ≡ cellOf n es (value n es (s / 2) +ᶠ value n es (t / 2)) → w ≡ startTileAt n (firstFrom s t c)
+        → w ≡ startTileAt n (sumStart n es (startCell n s) (startCell n t))
+    sums-start e h = h ∙ ap (startTileAt n) (sum-first e)
+
+    -- beside an open 0 the cell is that of the other posit, and the sums start above it
+    opened : {x : ℕ} → PlainStart n x → bothClosed s t ≡ 0 → bitOr x 1 ≡ startTileAt n (firstFrom s t (2 * numberOf n (x / 2) + 1))
+    opened {x} k m =
+        let even = half n (some-bit n wide) in
+        let number = number-below n (some-bit n wide) {p = x / 2} (omega (arith, k, even)) in
+        let c = 2 * numberOf n (x / 2) + 1 in
+        rw (m, with-mark x 1 (omega arith))
+        (omega (arith, number, start-tile-above n wide {c = 2 * ((c + 1) / 2)} (omega (arith, number, even)) (omega (arith, number, k, even, power-wider n)), even))
+
+    pub sums-from-right : s ≡ openZero → bitOr t 1 ≡ startTileAt n (sumStart n es (startCell n s) (startCell n t))
+    sums-from-right e = sums-start (zero-left n es wide (start-finite n wide q) (rw e refl) refl) (opened q (open-either s t (inl (rw e refl))))
+
+    pub sums-from-left : t ≡ openZero → bitOr s 1 ≡ startTileAt n (sumStart n es (startCell n s) (startCell n t))
+    sums-from-left e = sums-start (zero-right n es wide (start-finite n wide p) (rw e refl) refl) (opened p (open-either s t (inr (rw e refl))))
+
+  module _ {u v : ℕ} (p : PlainEnd n u) (q : PlainEnd n v) where
+    sum-last : {c : ℕ} → c ≡ cellOf n es (value n es (u / 2) +ᶠ value n es (v / 2)) → lastFrom u v c ≡ sumEnd n es (endCell n u) (endCell n v)
+    sum-last {c} e =
+        rw (plain-last n wide p, plain-last n wide q)
+        (sym (last-moved u v c)
+        ∙ ap₂ (λ (x y : ℕ). c - c % 2 * (1 - x * y)) (sym (end-mark-is n wide p)) (sym (end-mark-is n wide q))
+        ∙ end-found n es wide (lastOf n u) (lastOf n v) (last-there n wide p) (last-there n wide q) (end-posit-is n wide p) (end-posit-is n wide q) e)
+
+    pub sums-end : {c w : ℕ} → c ≡ cellOf n es (value n es (u / 2) +ᶠ value n es (v / 2)) → w ≡ endTileAt n (lastFrom u v c)
+        → w ≡ endTileAt n (sumEnd n es (endCell n u) (endCell n v))
+    sums-end e h = h ∙ ap (endTileAt n) (sum-last e)
 
 -- ---- the answers
 -- two plain ranges a and b, with the start tiles s and t and the end tiles u and v
@@ -263,16 +341,16 @@ module _ {n es a b s t u v : ℕ} (o : PlainEnds n es a b s t u v) where
   right-tiles = rw (o .right-start, o .right-end) (plain-tiles n b (o .right-plain))
 
   abbrev left : Span
-  left = record { lo = firstOf n s; hi = lastOf n u }
+  left = record { lo = startCell n s; hi = endCell n u }
 
   abbrev right : Span
-  right = record { lo = firstOf n t; hi = lastOf n v }
+  right = record { lo = startCell n t; hi = endCell n v }
 
   left-cells : cellsOf n a ≡ left
-  left-cells = rw (o .left-start, o .left-end) (plain-cells n a wide (o .left-plain))
+  left-cells = rw (o .left-start, o .left-end) (plain-between n a wide (o .left-plain))
 
   right-cells : cellsOf n b ≡ right
-  right-cells = rw (o .right-start, o .right-end) (plain-cells n b wide (o .right-plain))
+  right-cells = rw (o .right-start, o .right-end) (plain-between n b wide (o .right-plain))
 
   no-signs : (r : Span) → withSigns n (cellsOf n a) (cellsOf n b) r ≡ r
   no-signs r = ap₂ (λ (p q : Bool). pickSpan (Bool·beq p q) r (turnedCells n r)) (plain-above n a wide (o .left-plain)) (plain-above n b wide (o .right-plain))
@@ -292,47 +370,22 @@ module _ {n es a b s t u v : ℕ} (o : PlainEnds n es a b s t u v) where
       quotient-answer n es wide (real-of-plain n a wide (o .left-plain)) (real-of-plain n b wide (o .right-plain))
       ∙ ap (wordAt n) (sym (quotients-of-magnitudes n wide es (plain-one-sign n a wide (o .left-plain)) (plain-one-sign n b wide (o .right-plain))) ∙ no-signs _ ∙ of-magnitudes true)
 
-  module _ {lo hi : ℕ} where
-    pub product-found : lo ≡ resultCell n es false (s / 2) (t / 2) → hi ≡ resultCell n es false (u / 2) (v / 2)
-        → {x y w : ℕ} → x ≡ startTileAt n (firstFrom s t lo) → y ≡ endTileAt n (lastFrom u v hi) → w ≡ wordOf n x y → w ≡ answerOf n es 2 a b
-    product-found e f =
-        tiles-answer n es wide 2 a b (omega arith) (o .left-plain) (o .right-plain) (firstFrom s t lo) (lastFrom u v hi)
-        (products-are
-        ∙ ap (wordAt n) (λ i.
-        record {
-          lo = sym (first-between n es false (start-edge n wide left-tiles) (start-edge n wide right-tiles) e) i;
-          hi = sym (last-between n es false (end-edge n wide left-tiles) (end-edge n wide right-tiles) f) i;
-        }))
+  -- ---- two tiles of the answer make the answer
+  pub product-found : {x y w : ℕ} → x ≡ startTileAt n (firstCell n es false (startEdge n (startCell n s)) (startEdge n (startCell n t)))
+      → y ≡ endTileAt n (lastCell n es false (endEdge n (endCell n u)) (endEdge n (endCell n v))) → w ≡ wordOf n x y → w ≡ answerOf n es 2 a b
+  product-found = tiles-answer n es wide 2 a b (omega arith) (o .left-plain) (o .right-plain) _ _ products-are
 
-    pub quotient-found : lo ≡ resultCell n es true (s / 2) (v / 2) → hi ≡ resultCell n es true (u / 2) (t / 2)
-        → {x y w : ℕ} → x ≡ startTileAt n (firstFrom s v lo) → y ≡ endTileAt n (lastFrom u t hi) → w ≡ wordOf n x y → w ≡ answerOf n es 3 a b
-    quotient-found e f =
-        tiles-answer n es wide 3 a b (omega arith) (o .left-plain) (o .right-plain) (firstFrom s v lo) (lastFrom u t hi)
-        (quotients-are
-        ∙ ap (wordAt n) (λ i.
-        record {
-          lo = sym (first-between n es true (start-edge n wide left-tiles) (end-edge n wide right-tiles) e) i;
-          hi = sym (last-between n es true (end-edge n wide left-tiles) (start-edge n wide right-tiles) f) i;
-        }))
+  pub quotient-found : {x y w : ℕ} → x ≡ startTileAt n (firstCell n es true (startEdge n (startCell n s)) (endEdge n (endCell n v)))
+      → y ≡ endTileAt n (lastCell n es true (endEdge n (endCell n u)) (startEdge n (startCell n t))) → w ≡ wordOf n x y → w ≡ answerOf n es 3 a b
+  quotient-found = tiles-answer n es wide 3 a b (omega arith) (o .left-plain) (o .right-plain) _ _ quotients-are
 
-    module _ (e : lo ≡ cellOf n es (value n es (s / 2) +ᶠ value n es (t / 2))) (f : hi ≡ cellOf n es (value n es (u / 2) +ᶠ value n es (v / 2))) where
-      sum-first : firstFrom s t lo ≡ sumStart n es (firstOf n s) (firstOf n t)
-      sum-first =
-          sym (first-moved s t lo)
-          ∙ ap₂ (λ (p q : ℕ). lo + lo % 2 * (1 - p * q)) (sym (start-mark-is n wide left-tiles)) (sym (start-mark-is n wide right-tiles))
-          ∙ start-found n es wide (firstOf n s) (firstOf n t) (start-posit-is n wide left-tiles) (start-posit-is n wide right-tiles) e
-          (omega (arith, left-tiles)) (omega (arith, right-tiles))
-
-      sum-last : lastFrom u v hi ≡ sumEnd n es (lastOf n u) (lastOf n v)
-      sum-last =
-          sym (last-moved u v hi)
-          ∙ ap₂ (λ (p q : ℕ). hi - hi % 2 * (1 - p * q)) (sym (end-mark-is n wide left-tiles)) (sym (end-mark-is n wide right-tiles))
-          ∙ end-found n es wide (lastOf n u) (lastOf n v) (last-there n wide left-tiles) (last-there n wide right-tiles)
-          (end-posit-is n wide left-tiles) (end-posit-is n wide right-tiles) f
-
-      pub sum-found : {x y w : ℕ} → x ≡ startTileAt n (firstFrom s t lo) → y ≡ endTileAt n (lastFrom u v hi) → w ≡ wordOf n x y → w ≡ answerOf n es 0 a b
-      sum-found =
-          tiles-answer n es wide 0 a b (omega arith) (o .left-plain) (o .right-plain) (firstFrom s t lo) (lastFrom u v hi)
-          (sum-answer n es wide (real-of-plain n a wide (o .left-plain)) (real-of-plain n b wide (o .right-plain))
-          ∙ ap₂ (λ (x y : Span). wordAt n (sumCells n es x y)) (left-cells) (right-cells)
-          ∙ sym (sum-word n es wide left right sum-first sum-last (cells-ordered n wide left-tiles) (cells-ordered n wide right-tiles) refl))
+  pub sum-found : {x y w : ℕ} → x ≡ startTileAt n (sumStart n es (startCell n s) (startCell n t))
+      → y ≡ endTileAt n (sumEnd n es (endCell n u) (endCell n v)) → w ≡ wordOf n x y → w ≡ answerOf n es 0 a b
+  sum-found =
+      tiles-answer n es wide 0 a b (omega arith) (o .left-plain) (o .right-plain) _ _
+      (sum-answer n es wide (real-of-plain n a wide (o .left-plain)) (real-of-plain n b wide (o .right-plain))
+      ∙ ap₂ (λ (x y : Span). wordAt n (sumCells n es x y)) left-cells right-cells
+      ∙ sym (sum-word n es wide left right refl refl (in-order left-tiles) (in-order right-tiles) refl))
+    where
+      in-order : {s t : ℕ} → PlainTiles n s t → startCell n s ≤ endCell n t
+      in-order p = omega (arith, plain-first n wide (plain-start p), plain-last n wide (plain-end p), cells-ordered p)

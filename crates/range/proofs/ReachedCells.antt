@@ -36,9 +36,11 @@ module _ (n : ℕ) (wide : 3 ≤ n) where
   end-limit {c} {z} a e d = high-pattern (c / 2) (omega (arith, half n (some-bit n wide), a .above)) (omega (arith, top-cell n wide, a .there, e, d))
 
   -- without the sign
-  pub start-by-count : {c : ℕ} → 2 ^ n < c → c ≤ topCell n → (c + 1 - 2 ^ n) / 2 ≡ startEdge n c .posit
+  pub start-by-count : {c : ℕ} → 2 ^ n ≤ c → c ≤ topCell n → (c + 1 - 2 ^ n) / 2 ≡ startEdge n c .posit
   start-by-count {c} h l =
-      omega (arith, pattern-high n (some-bit n wide) ((c - 1) / 2) (omega (arith, half n (some-bit n wide), h)) (omega (arith, top-cell n wide, l)), half n (some-bit n wide))
+      let even = half n (some-bit n wide) in
+      let some = nar-positive n (some-bit n wide) in
+      omega (arith, pattern-high n (some-bit n wide) ((c - 1) / 2) (omega (arith, even, h)) (omega (arith, top-cell n wide, some, even, l)), some, even, h)
 
   pub end-by-count : {c : ℕ} → 2 ^ n ≤ c → c < topCell n → (c + 2 - 2 ^ n) / 2 ≡ endEdge n c .posit
   end-by-count {c} h l =

@@ -13,3 +13,5 @@ pub mod OneSign
 pub mod Reading
 pub mod Mixed
 pub mod Plain
+pub mod Across
+pub mod Spread

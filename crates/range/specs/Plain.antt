@@ -1,9 +1,22 @@
--- Ranges with a member whose ends are both posits above 0: most ranges are such, and their sums, products and quotients take one way.
+-- Ranges above 0 with a member and an upper limit: most ranges are such, and their sums, products and quotients take one way.
 use mathlib.Core.Bool.{Bool, _&&_}
-use Prim.Native.Nat.{ℕ, _+_, _*_, _%_, _^_}
+use Prim.Native.Nat.{ℕ, _+_, _*_, _%_, _^_, _≤_, _<_}
 use lib.Dec.{leb, ltb}
 use Rattle.range.specs.Word.{startTile, endTile}
 
--- a start tile above that of the open 0, at or below the end tile (below it by one posit at least where the end is open), which is below NaR's
+-- a start tile that is not the closed 0, at or below the end tile (below it by one posit at least where the end is open), which is below NaR's
 abbrev pub isPlain : ℕ → ℕ → Bool
-isPlain n w = leb 2 (startTile n w) && (leb (startTile n w + 2 * (endTile n w % 2)) (endTile n w) && ltb (endTile n w) (2 ^ n))
+isPlain n w = leb 1 (startTile n w) && (leb (startTile n w + 2 * (endTile n w % 2)) (endTile n w) && ltb (endTile n w) (2 ^ n))
+
+-- the tile of an open 0, at which a plain range may start
+abbrev pub openZero : ℕ
+openZero = 1
+
+-- the tiles at which a plain range starts, and those at which it ends
+pub record PlainStart (n s : ℕ) : Type 0 where
+  pub above : openZero ≤ s
+  pub below : s < 2 ^ n
+
+pub record PlainEnd (n t : ℕ) : Type 0 where
+  pub above : 2 ≤ t
+  pub below : t < 2 ^ n

@@ -1,4 +1,6 @@
 // What the layers above use of the ranges beside the public calls; these functions may ask something of their caller.
+pub mod across;
+pub mod across_results;
 pub mod add;
 pub mod cell;
 pub mod cells;
@@ -16,6 +18,7 @@ pub mod positive;
 pub mod signed;
 pub mod signs;
 pub mod span;
+pub mod spread;
 pub mod turn;
 pub mod word;
 pub mod zero;

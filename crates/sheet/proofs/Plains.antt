@@ -1,4 +1,5 @@
--- Columns of plain words, pair by pair: plain words are real ranges without 0, so that every test of every pair passes.
+-- Columns of ranges above 0, or across it on the left, pair by pair: they are real ranges, and those on the right are without 0, so that every test of every
+-- pair passes.
 use mathlib.Core.Path.{_≡_}
 use mathlib.Core.Bool.{true, not, _&&_}
 use mathlib.Core.Logic.{_≢_}
@@ -12,7 +13,9 @@ use lib.Seq.{drop-cons}
 use borrow.Author.Tests.{eqb-false, not-true}
 use Rattle.posit.specs.Format.{Format}
 use Rattle.range.specs.Plain.{isPlain}
+use Rattle.range.specs.Spread.{isSpread}
 use Rattle.range.proofs.PlainCells.{real-of-plain, plain-no-zero}
+use Rattle.range.proofs.Spreading.{real-of-spread}
 use Rattle.sheet.specs.Refusal.{holdsZero}
 use Rattle.sheet.specs.Accepted.{PairFits}
 use Rattle.sheet.specs.Column.{pairsTests}
@@ -24,7 +27,7 @@ use Rattle.sheet.proofs.Pairs.{fits-pair}
 -- ---- what is left after i pairs
 module _ (n : ℕ) where
   pub plain-next : (i : ℕ) (left right : List ℕ) → i < length left → i < length right
-      → allPlain n (drop i left) (drop i right) ≡ (isPlain n (getD left i 0) && (isPlain n (getD right i 0) && allPlain n (drop (i + 1) left) (drop (i + 1) right)))
+      → allPlain n (drop i left) (drop i right) ≡ (isSpread n (getD left i 0) && (isPlain n (getD right i 0) && allPlain n (drop (i + 1) left) (drop (i + 1) right)))
   unfolding allPlain
   plain-next i left right hl hr = rw (add-one i, drop-cons left i 0 hl, drop-cons right i 0 hr, allPlain)
 
@@ -34,30 +37,30 @@ module _ (n : ℕ) where
 
   -- ---- each pair
   pub plain-at : (left right : List ℕ) → allPlain n left right ≡ true → (i : ℕ) → i < length left → i < length right
-      → (isPlain n (getD left i 0) ≡ true) × (isPlain n (getD right i 0) ≡ true)
+      → (isSpread n (getD left i 0) ≡ true) × (isPlain n (getD right i 0) ≡ true)
   unfolding allPlain
   plain-at [] right p i hl hr = absurd (not-suc-le-zero hl)
   plain-at (a ∷ left) [] p i hl hr = absurd (not-suc-le-zero hr)
   plain-at (a ∷ left) (b ∷ right) p zero hl hr =
-      let (pa, rest) = both-parts (isPlain n a) (isPlain n b && allPlain n left right) p in
+      let (pa, rest) = both-parts (isSpread n a) (isPlain n b && allPlain n left right) p in
       (pa, both-parts (isPlain n b) (allPlain n left right) rest .0)
   plain-at (a ∷ left) (b ∷ right) p (suc i) hl hr =
-      let (pa, rest) = both-parts (isPlain n a) (isPlain n b && allPlain n left right) p in
+      let (pa, rest) = both-parts (isSpread n a) (isPlain n b && allPlain n left right) p in
       plain-at left right (both-parts (isPlain n b) (allPlain n left right) rest .1) i (le-of-suc-le-suc hl) (le-of-suc-le-suc hr)
 
 -- ---- the tests
 module _ {n es : ℕ} (f : Format n es) (op : ℕ) where
-  plain-pair : (a b : ℕ) → isPlain n a ≡ true → isPlain n b ≡ true → PairFits n es op a b
+  plain-pair : (a b : ℕ) → isSpread n a ≡ true → isPlain n b ≡ true → PairFits n es op a b
   unfolding holdsZero
   plain-pair a b p q =
-      record { left-real = real-of-plain n a (f .wide-enough) p; right-real = real-of-plain n b (f .wide-enough) q; divisor = λ d. plain-no-zero b f q }
+      record { left-real = real-of-spread n a (f .wide-enough) p; right-real = real-of-plain n b (f .wide-enough) q; divisor = λ d. plain-no-zero b f q }
 
   pub plain-passes : (place : ℕ) (left right : List ℕ) → allPlain n left right ≡ true → Passing (pairsTests n es op place left right)
   unfolding allPlain pairsTests
   plain-passes place [] right p = all-pass
   plain-passes place (a ∷ left) [] p = all-pass
   plain-passes place (a ∷ left) (b ∷ right) p =
-      let (pa, rest) = both-parts (isPlain n a) (isPlain n b && allPlain n left right) p in
+      let (pa, rest) = both-parts (isSpread n a) (isPlain n b && allPlain n left right) p in
       let (pb, more) = both-parts (isPlain n b) (allPlain n left right) rest in
       passing-both (fits-pair n es op place a b (plain-pair a b pa pb)) (plain-passes (suc place) left right more)
 

@@ -37,7 +37,7 @@ fn posit_cell(n: u32, p: u32) -> u32
 }
 
 // The cell of the exact sum of two finite posits.
-fn sum_cell(n: u32, es: u32, p: u32, q: u32) -> u32
+pub fn sum_cell(n: u32, es: u32, p: u32, q: u32) -> u32
     requires { ⌜ (Format n es) × (Finite n p) × (Finite n q) ⌝ }
     ensures { λ r. ⌜ r ≡ cellOf n es (value n es p +ᶠ value n es q) ⌝ }
 {

@@ -1,11 +1,11 @@
-// Whether a word is a range with both ends at posits above 0.
+// Whether a word is a range above 0 with a member and an upper limit.
 ghost use mathlib.Core.Path.{_≡_};
 ghost use Prim.Native.Nat.{_≤_};
 ghost use Rattle.range.specs.Plain.{isPlain};
 use posit::inner::power::power;
 
-// The start of a plain range stands above the open 0.
-const ABOVE_ZERO: u64 = 2;
+// The tile of an open 0, at which a plain range may start.
+pub const OPEN_ZERO: u32 = 1;
 
 pub fn is_plain(n: u32, w: u64) -> bool
     requires { ⌜ n ≤ 16 ⌝ }
@@ -13,5 +13,5 @@ pub fn is_plain(n: u32, w: u64) -> bool
 {
     let start = w / power(n + 1);
     let end = w % power(n + 1);
-    ABOVE_ZERO <= start && start + 2 * (end % 2) <= end && end < power(n)
+    OPEN_ZERO as u64 <= start && start + 2 * (end % 2) <= end && w / power(n) % 2 == 0
 }

@@ -1,13 +1,17 @@
-// Sums, products and quotients of two ranges with both ends at posits above 0: each end of the answer is the cell of one exact result.
+// Sums, products and quotients of two ranges above 0 with an upper limit: each end of the answer is the cell of one exact result, unless a range
+// starts at an open 0.
 ghost use mathlib.Core.Path.{_≡_};
-ghost use mathlib.Core.Bool.{true};
+ghost use mathlib.Core.Bool.{true, false};
 ghost use Prim.Native.Nat.{_+_, _-_, _*_, _/_, _%_, _^_, _≤_};
 ghost use Rattle.posit.specs.Format.{Format};
 ghost use Rattle.posit.specs.Parts.{chosenBy};
+ghost use Rattle.range.specs.Cells.{sumStart, sumEnd};
 ghost use Rattle.range.specs.Computed.{answerOf};
-ghost use Rattle.range.specs.Plain.{isPlain};
-ghost use Rattle.range.specs.Spans.{topCell, startTileAt, endTileAt};
+ghost use Rattle.range.specs.Plain.{isPlain, PlainStart, PlainEnd};
+ghost use Rattle.range.specs.Signs.{startEdge, endEdge, firstCell, lastCell};
+ghost use Rattle.range.specs.Spans.{topCell, startCell, endCell, startTileAt, endTileAt};
 use super::add::total_cell;
+use super::plain::OPEN_ZERO;
 use super::positive::product_cell;
 use super::positive::quotient_cell;
 use super::span::joined;
@@ -22,18 +26,84 @@ fn start_tile_from(n: u32, s: u32, t: u32, cell: u32) -> u32
     ensures { λ r. ⌜ r ≡ startTileAt n (chosenBy ((1 - s % 2) * (1 - t % 2)) (2 * ((cell + 1) / 2)) cell) ⌝ }
 {
     let step = cell + 1 - power32(n);
-    let open = 1 - (1 - s % 2) * (1 - t % 2);
-    step + (1 - step % 2) * open
+    let open = (s | t) % 2;
+    step | open
 }
 
 // The end tile of the results up to the tiles s and t: beyond a gap it stands on the next posit.
-fn end_tile_from(n: u32, s: u32, t: u32, cell: u32) -> u32
+pub fn end_tile_from(n: u32, s: u32, t: u32, cell: u32) -> u32
     requires { ⌜ (3 ≤ n) × (n ≤ 16) × (2 ^ n ≤ cell) × (cell ≤ topCell n) ⌝ }
     ensures { λ r. ⌜ r ≡ endTileAt n (chosenBy ((1 - s % 2) * (1 - t % 2)) (2 * (cell / 2)) cell) ⌝ }
 {
     let step = cell + 1 - power32(n);
-    let open = 1 - (1 - s % 2) * (1 - t % 2);
-    step + 2 * (step % 2) + (1 - step % 2) * open
+    let open = (s | t) % 2;
+    (step + 2 * (step % 2)) | open
+}
+
+// The start tile of the sums from the tiles s and t on: beyond an open 0 they start at the other tile, open.
+fn sum_start_tile(n: u32, es: u32, s: u32, t: u32) -> u32
+    requires { ⌜ (Format n es) × (PlainStart n s) × (PlainStart n t) ⌝ }
+    ensures { λ r. ⌜ r ≡ startTileAt n (sumStart n es (startCell n s) (startCell n t)) ⌝ }
+{
+    if s == OPEN_ZERO {
+        return t | 1;
+    }
+    if t == OPEN_ZERO {
+        return s | 1;
+    }
+    start_tile_from(n, s, t, total_cell(n, es, s / 2, t / 2))
+}
+
+// The end tile of the sums up to the tiles u and v.
+fn sum_end_tile(n: u32, es: u32, u: u32, v: u32) -> u32
+    requires { ⌜ (Format n es) × (PlainEnd n u) × (PlainEnd n v) ⌝ }
+    ensures { λ r. ⌜ r ≡ endTileAt n (sumEnd n es (endCell n u) (endCell n v)) ⌝ }
+{
+    end_tile_from(n, u, v, total_cell(n, es, u / 2, v / 2))
+}
+
+// The start tile of the products from the tiles s and t on: an open 0 where either is.
+fn product_start(n: u32, es: u32, s: u32, t: u32) -> u32
+    requires { ⌜ (Format n es) × (PlainStart n s) × (PlainStart n t) ⌝ }
+    ensures { λ r. ⌜ r ≡ startTileAt n (firstCell n es false (startEdge n (startCell n s)) (startEdge n (startCell n t))) ⌝ }
+{
+    if s == OPEN_ZERO {
+        return OPEN_ZERO;
+    }
+    if t == OPEN_ZERO {
+        return OPEN_ZERO;
+    }
+    start_tile_from(n, s, t, product_cell(n, es, s / 2, t / 2))
+}
+
+// The end tile of the products up to the tiles u and v.
+fn product_end(n: u32, es: u32, u: u32, v: u32) -> u32
+    requires { ⌜ (Format n es) × (PlainEnd n u) × (PlainEnd n v) ⌝ }
+    ensures { λ r. ⌜ r ≡ endTileAt n (lastCell n es false (endEdge n (endCell n u)) (endEdge n (endCell n v))) ⌝ }
+{
+    end_tile_from(n, u, v, product_cell(n, es, u / 2, v / 2))
+}
+
+// The start tile of the quotients from the tile s over the tile v on: an open 0 where s is.
+fn quotient_start(n: u32, es: u32, s: u32, v: u32) -> u32
+    requires { ⌜ (Format n es) × (PlainStart n s) × (PlainEnd n v) ⌝ }
+    ensures { λ r. ⌜ r ≡ startTileAt n (firstCell n es true (startEdge n (startCell n s)) (endEdge n (endCell n v))) ⌝ }
+{
+    if s == OPEN_ZERO {
+        return OPEN_ZERO;
+    }
+    start_tile_from(n, s, v, quotient_cell(n, es, s / 2, v / 2))
+}
+
+// The end tile of the quotients up to the tile u over the tile t: an open NaR, no limit, where t is an open 0.
+fn quotient_end(n: u32, es: u32, u: u32, t: u32) -> u32
+    requires { ⌜ (Format n es) × (PlainEnd n u) × (PlainStart n t) ⌝ }
+    ensures { λ r. ⌜ r ≡ endTileAt n (lastCell n es true (endEdge n (endCell n u)) (startEdge n (startCell n t))) ⌝ }
+{
+    if t == OPEN_ZERO {
+        return power32(n) + 1;
+    }
+    end_tile_from(n, u, t, quotient_cell(n, es, u / 2, t / 2))
 }
 
 // From the sum of both starts to the sum of both ends.
@@ -45,9 +115,7 @@ pub fn plain_sum(n: u32, es: u32, a: u64, b: u64) -> u64
     let t = start_tile(n, b);
     let u = end_tile(n, a);
     let v = end_tile(n, b);
-    let lo = total_cell(n, es, s / 2, t / 2);
-    let hi = total_cell(n, es, u / 2, v / 2);
-    joined(n, start_tile_from(n, s, t, lo), end_tile_from(n, u, v, hi))
+    joined(n, sum_start_tile(n, es, s, t), sum_end_tile(n, es, u, v))
 }
 
 // From the product of both starts to the product of both ends.
@@ -59,9 +127,7 @@ pub fn plain_product(n: u32, es: u32, a: u64, b: u64) -> u64
     let t = start_tile(n, b);
     let u = end_tile(n, a);
     let v = end_tile(n, b);
-    let lo = product_cell(n, es, s / 2, t / 2);
-    let hi = product_cell(n, es, u / 2, v / 2);
-    joined(n, start_tile_from(n, s, t, lo), end_tile_from(n, u, v, hi))
+    joined(n, product_start(n, es, s, t), product_end(n, es, u, v))
 }
 
 // From the start over the end to the end over the start.
@@ -73,7 +139,5 @@ pub fn plain_quotient(n: u32, es: u32, a: u64, b: u64) -> u64
     let t = start_tile(n, b);
     let u = end_tile(n, a);
     let v = end_tile(n, b);
-    let lo = quotient_cell(n, es, s / 2, v / 2);
-    let hi = quotient_cell(n, es, u / 2, t / 2);
-    joined(n, start_tile_from(n, s, v, lo), end_tile_from(n, u, t, hi))
+    joined(n, quotient_start(n, es, s, v), quotient_end(n, es, u, t))
 }

@@ -1,4 +1,4 @@
-// Columns of plain ranges only: seen in one pass, and answered in another without a test of a single pair.
+// Columns of ranges above 0, or across it on the left: seen in one pass, and answered in another without a test of a single pair.
 ghost use mathlib.Core.Path.{_≡_};
 ghost use mathlib.Core.Bool.{true};
 ghost use mathlib.Core.Logic.{_≢_};
@@ -7,13 +7,15 @@ ghost use Prim.Native.Nat.{_≤_};
 ghost use lib.ListN.{length, drop};
 ghost use Rattle.posit.specs.Format.{Format};
 ghost use Rattle.range.specs.Plain.{isPlain};
+ghost use Rattle.range.specs.Spread.{isSpread};
 ghost use Rattle.range.specs.Computed.{answerOf};
 ghost use Rattle.sheet.specs.Column.{answersOf};
 ghost use Rattle.sheet.specs.Plains.{allPlain, takesPlainWay};
 use range::inner::plain::is_plain;
-use range::inner::plain_results::plain_product;
-use range::inner::plain_results::plain_quotient;
-use range::inner::plain_results::plain_sum;
+use range::inner::spread::is_spread;
+use range::inner::spread::spread_product;
+use range::inner::spread::spread_quotient;
+use range::inner::spread::spread_sum;
 
 const ADD: u8 = 0;
 
@@ -21,14 +23,14 @@ const SUBTRACT: u8 = 1;
 
 const MULTIPLY: u8 = 2;
 
-// Whether every word of both columns is plain.
+// Whether every left word lies above 0 or across it, and every right one above it.
 pub fn all_plain(n: u32, left: &[u64], right: &[u64]) -> bool
     requires { ⌜ (n ≤ 16) × (length (now left) ≡ length (now right)) ⌝ }
     ensures { λ r. ⌜ r ≡ allPlain n (now (left .entry)) (now (right .entry)) ⌝ }
 {
     let mut i: usize = 0;
     while i < left.len() {
-        if !is_plain(n, left[i]) {
+        if !is_spread(n, left[i]) {
             return false;
         }
         if !is_plain(n, right[i]) {
@@ -39,7 +41,7 @@ pub fn all_plain(n: u32, left: &[u64], right: &[u64]) -> bool
     true
 }
 
-// Whether the columns can be answered without a test of each pair; the difference of plain ranges may be of either sign.
+// Whether the columns can be answered without a test of each pair; the difference of two ranges above 0 may have either sign.
 pub fn takes_plain_way(n: u32, op: u8, left: &[u64], right: &[u64]) -> bool
     requires { ⌜ (n ≤ 16) × (length (now left) ≡ length (now right)) ⌝ }
     ensures { λ r. ⌜ r ≡ takesPlainWay n op (now (left .entry)) (now (right .entry)) ⌝ }
@@ -47,21 +49,21 @@ pub fn takes_plain_way(n: u32, op: u8, left: &[u64], right: &[u64]) -> bool
     op != SUBTRACT && all_plain(n, left, right)
 }
 
-// One pair of plain ranges.
+// One such pair.
 pub fn plain_answer(n: u32, es: u32, op: u8, a: u64, b: u64) -> u64
-    requires { ⌜ (Format n es) × (op ≤ 3) × (op ≢ 1) × (isPlain n a ≡ true) × (isPlain n b ≡ true) ⌝ }
+    requires { ⌜ (Format n es) × (op ≤ 3) × (op ≢ 1) × (isSpread n a ≡ true) × (isPlain n b ≡ true) ⌝ }
     ensures { λ r. ⌜ r ≡ answerOf n es op a b ⌝ }
 {
     if op == MULTIPLY {
-        return plain_product(n, es, a, b);
+        return spread_product(n, es, a, b);
     }
     if op == ADD {
-        return plain_sum(n, es, a, b);
+        return spread_sum(n, es, a, b);
     }
-    plain_quotient(n, es, a, b)
+    spread_quotient(n, es, a, b)
 }
 
-// The answers of plain columns, written from the front.
+// The answers of such columns, written from the front.
 pub fn write_plain(n: u32, es: u32, op: u8, left: &[u64], right: &[u64], out: &mut [u64])
     requires { ⌜ (Format n es) × (op ≤ 3) × (length (now left) ≡ length (now right)) × (length (now left) ≤ length (now out)) ⌝ }
     requires { ⌜ takesPlainWay n op (now left) (now right) ≡ true ⌝ }

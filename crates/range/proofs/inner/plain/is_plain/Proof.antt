@@ -18,7 +18,7 @@ start-of c = c .before .before .before .args .w / c .before .before .power .resu
 abbrev end-of : tie.Joined1 → ℕ
 end-of c = c .before .before .before .args .w % c .before .power2 .result
 
-first-tests : (c : tie.Joined1) → c .if1 .if2 ≡ (leb 2 (start-of c) && leb (start-of c + 2 * (end-of c % 2)) (end-of c))
+first-tests : (c : tie.Joined1) → c .if1 .if2 ≡ (leb 1 (start-of c) && leb (start-of c + 2 * (end-of c % 2)) (end-of c))
 first-tests c = elim (c .if1 .came) [ inl k ↦ order-tested (start-of c) (end-of c) (k .0 .taken) (k .1) | inr k ↦ start-refused (start-of c) (end-of c) (k .0 .left) (k .1) ]
 
 add-power : tie.Need-add-power
@@ -39,6 +39,9 @@ power-requires-2 c κs = search needs
 rem-end : tie.Need-rem-end
 rem-end c = rw (c .power2 .ensures) (pow-pos _)
 
+cast-if1 : tie.Need-cast-if1
+cast-if1 c = search needs
+
 mul-if2 : tie.Need-mul-if2
 mul-if2 c = search needs
 
@@ -49,6 +52,9 @@ add-if2 c =
 
 power-requires-3 : tie.Need-power-requires-3
 power-requires-3 c κs = search needs
+
+div-result : tie.Need-div-result
+div-result c = rw (c .power3 .ensures) (pow-pos _)
 
 returns : tie.Need-returns
 returns c =
@@ -72,8 +78,10 @@ is-plain-spec =
     add-power-2
     power-requires-2
     rem-end
+    cast-if1
     mul-if2
     add-if2
     power-requires-3
+    div-result
     returns
     returns-2)

@@ -1,10 +1,9 @@
 -- `range::inner::plain_results::end_tile_from` meets its contract: the tile of a cell above that of 0 is its distance from the cells up to 0 (`PlainResults`).
-use Prim.Native.Nat.{_+_, _-_}
 use native.Mathlib.Omega.{arith}
 use borrow.Author.Needs.{needs}
 use Rattle.posit.proofs.Mirror.{power-wider}
 use Rattle.range.proofs.Tiles.{half-small}
-use Rattle.range.proofs.PlainResults.{closed-small, mark-small, end-tile-found}
+use Rattle.range.proofs.PlainResults.{end-tile-found}
 use Rattle.range.proofs.inner.plain_results.end_tile_from.Statement.{statement}
 use Rattle.range.proofs.inner.plain_results.end_tile_from.Tie as tie
 
@@ -17,50 +16,14 @@ power32-requires c κs = search needs
 sub-step : tie.Need-sub-step
 sub-step c = search needs
 
-sub-open : tie.Need-sub-open
-sub-open c = search needs
-
-sub-open-2 : tie.Need-sub-open-2
-sub-open-2 c = search needs
-
-mul-open : tie.Need-mul-open
-mul-open c = record { fits = omega (arith, closed-small (c .before .args .s) (c .before .args .t)) }
-
-sub-open-3 : tie.Need-sub-open-3
-sub-open-3 c = closed-small (c .before .args .s) (c .before .args .t)
-
 mul-result : tie.Need-mul-result
 mul-result c = search needs
 
 add-result : tie.Need-add-result
 add-result c = record { fits = omega (arith, power-wider (c .before .args .n), half-small (c .before .pre .1)) }
 
-sub-result : tie.Need-sub-result
-sub-result c = search needs
-
-mul-result-2 : tie.Need-mul-result-2
-mul-result-2 c = record { fits = omega (arith, mark-small (c .before .args .s) (c .before .args .t) (c .before .args .cell + 1 - c .power32 .result)) }
-
-add-result-2 : tie.Need-add-result-2
-add-result-2 c = record { fits = omega (arith, mark-small (c .before .args .s) (c .before .args .t) (c .before .args .cell + 1 - c .power32 .result), power-wider (c .before .args .n), half-small (c .before .pre .1)) }
-
 returns : tie.Need-returns
 returns c = rw (c .power32 .ensures) (end-tile-found (c .before .args .n) (c .before .pre .0) (c .before .args .s) (c .before .args .t) (c .before .pre .2) (c .before .pre .3))
 
 pub end-tile-from-spec : {M : Type 1} → statement M
-end-tile-from-spec =
-    tie.close
-    (tie.spec
-    add-step
-    power32-requires
-    sub-step
-    sub-open
-    sub-open-2
-    mul-open
-    sub-open-3
-    mul-result
-    add-result
-    sub-result
-    mul-result-2
-    add-result-2
-    returns)
+end-tile-from-spec = tie.close (tie.spec add-step power32-requires sub-step mul-result add-result returns)

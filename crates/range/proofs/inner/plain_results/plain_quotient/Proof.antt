@@ -1,7 +1,6 @@
 -- `range::inner::plain_results::plain_quotient` meets its contract: the quotients reach from the start over the end to the end over the start (`PlainResults`).
-use mathlib.Core.Bool.{true}
-use Rattle.range.proofs.PlainCells.{real-of-plain, start-posit-fits, end-posit-fits}
-use Rattle.range.proofs.PlainResults.{PlainEnds, wide, left-tiles, right-tiles, result-cell-above, start-tile-fits, end-tile-fits, quotient-found}
+use Rattle.range.proofs.PlainCells.{plain-start, plain-end, real-of-plain}
+use Rattle.range.proofs.PlainResults.{PlainEnds, wide, left-tiles, right-tiles, start-tile-fits, end-tile-fits, quotient-found}
 use Rattle.range.proofs.inner.plain_results.plain_quotient.Statement.{statement}
 use Rattle.range.proofs.inner.plain_results.plain_quotient.Tie as tie
 
@@ -40,56 +39,22 @@ end-tile-requires-2 c κs =
     let start = c .before .before .before in
     (start .pre .0 .not-too-wide, real-of-plain (start .args .n) (start .args .b) (start .pre .0 .wide-enough) (start .pre .2) .fits)
 
-quotient-cell-requires : tie.Need-quotient-cell-requires
-quotient-cell-requires c κs =
-    let o = opened c in
-    let p = start-posit-fits (begun c .args .n) (wide o) (left-tiles o) in
-    let q = end-posit-fits (begun c .args .n) (wide o) (right-tiles o) in
-    (o .format, p .0, p .1, q .0, q .1)
+quotient-start-requires : tie.Need-quotient-start-requires
+quotient-start-requires c κs = let o = opened c in (o .format, plain-start (left-tiles o), plain-end (right-tiles o))
 
-quotient-cell-requires-2 : tie.Need-quotient-cell-requires-2
-quotient-cell-requires-2 c κs =
-    let o = opened (c .before) in
-    let p = end-posit-fits (begun (c .before) .args .n) (wide o) (left-tiles o) in
-    let q = start-posit-fits (begun (c .before) .args .n) (wide o) (right-tiles o) in
-    (o .format, p .0, p .1, q .0, q .1)
-
-start-tile-from-requires : tie.Need-start-tile-from-requires
-start-tile-from-requires c κs =
-    let start = begun (c .before .before) in
-    let o = opened (c .before .before) in
-    let k = result-cell-above (start .args .n) (start .args .es) (wide o) (start-posit-fits (start .args .n) (wide o) (left-tiles o)) (end-posit-fits (start .args .n) (wide o) (right-tiles o)) true (c .before .quotient-cell .ensures) in
-    (wide o, o .format .not-too-wide, k .0, k .1)
-
-end-tile-from-requires : tie.Need-end-tile-from-requires
-end-tile-from-requires c κs =
-    let start = begun (c .before .before .before) in
-    let o = opened (c .before .before .before) in
-    let k = result-cell-above (start .args .n) (start .args .es) (wide o) (end-posit-fits (start .args .n) (wide o) (left-tiles o)) (start-posit-fits (start .args .n) (wide o) (right-tiles o)) true (c .before .quotient-cell2 .ensures) in
-    (wide o, o .format .not-too-wide, k .0, k .1)
+quotient-end-requires : tie.Need-quotient-end-requires
+quotient-end-requires c κs = let o = opened (c .before) in (o .format, plain-end (left-tiles o), plain-start (right-tiles o))
 
 joined-requires : tie.Need-joined-requires
 joined-requires c κs =
-    let start = begun (c .before .before .before .before) in
-    let o = opened (c .before .before .before .before) in
-    (o .format .not-too-wide, rw (c .before .start-tile-from .ensures) (start-tile-fits (start .args .n) _), rw (c .end-tile-from .ensures) (end-tile-fits (start .args .n) _ (wide o)))
+    let start = begun (c .before .before) in
+    let o = opened (c .before .before) in
+    (o .format .not-too-wide, rw (c .before .quotient-start .ensures) (start-tile-fits (start .args .n) _), rw (c .quotient-end .ensures) (end-tile-fits (start .args .n) _ (wide o)))
 
 returns : tie.Need-returns
-returns c =
-    quotient-found (opened (c .before .before .before .before .before)) (c .before .before .before .before .quotient-cell .ensures) (c .before .before .before .quotient-cell2 .ensures)
-    (c .before .before .start-tile-from .ensures) (c .before .end-tile-from .ensures) (c .joined .ensures)
+returns c = quotient-found (opened (c .before .before .before)) (c .before .before .quotient-start .ensures) (c .before .quotient-end .ensures) (c .joined .ensures)
 
 pub plain-quotient-spec : {M : Type 1} → statement M
 plain-quotient-spec =
     tie.close
-    (tie.spec
-    start-tile-requires
-    start-tile-requires-2
-    end-tile-requires
-    end-tile-requires-2
-    quotient-cell-requires
-    quotient-cell-requires-2
-    start-tile-from-requires
-    end-tile-from-requires
-    joined-requires
-    returns)
+    (tie.spec start-tile-requires start-tile-requires-2 end-tile-requires end-tile-requires-2 quotient-start-requires quotient-end-requires joined-requires returns)

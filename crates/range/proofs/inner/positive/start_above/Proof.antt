@@ -17,7 +17,7 @@ sub-result : tie.Need-sub-result
 sub-result c = search needs
 
 returns : tie.Need-returns
-returns c = rw (c .power32 .ensures) (start-by-count (c .before .args .n) (c .before .pre .0) (c .before .pre .2) (c .before .pre .3))
+returns c = rw (c .power32 .ensures) (start-by-count (c .before .args .n) (c .before .pre .0) (omega (arith, c .before .pre .2)) (c .before .pre .3))
 
 pub start-above-spec : {M : Type 1} → statement M
 start-above-spec = tie.close (tie.spec add-result power32-requires sub-result returns)

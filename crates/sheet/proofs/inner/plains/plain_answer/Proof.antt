@@ -8,31 +8,31 @@ use Rattle.sheet.proofs.inner.plains.plain_answer.Tie as tie
 last : (c : tie.Else2) → c .before .before .args .op ≡ 3
 last c = omega (arith, c .before .before .pre .1, c .before .before .pre .2, c .before .if1 .left, c .if2 .left)
 
-plain-product-requires : tie.Need-plain-product-requires
-plain-product-requires c κs = search needs
+spread-product-requires : tie.Need-spread-product-requires
+spread-product-requires c κs = search needs
 
 returns : tie.Need-returns
-returns c = rw (c .before .if1 .taken) (c .plain-product .ensures)
+returns c = rw (c .before .if1 .taken) (c .spread-product .ensures)
 
-plain-sum-requires : tie.Need-plain-sum-requires
-plain-sum-requires c κs = search needs
+spread-sum-requires : tie.Need-spread-sum-requires
+spread-sum-requires c κs = search needs
 
 returns-2 : tie.Need-returns-2
-returns-2 c = rw (c .before .if2 .taken) (c .plain-sum .ensures)
+returns-2 c = rw (c .before .if2 .taken) (c .spread-sum .ensures)
 
-plain-quotient-requires : tie.Need-plain-quotient-requires
-plain-quotient-requires c κs = search needs
+spread-quotient-requires : tie.Need-spread-quotient-requires
+spread-quotient-requires c κs = search needs
 
 returns-3 : tie.Need-returns-3
-returns-3 c = rw (last (c .before)) (c .plain-quotient .ensures)
+returns-3 c = rw (last (c .before)) (c .spread-quotient .ensures)
 
 pub plain-answer-spec : {M : Type 1} → statement M
 plain-answer-spec =
     tie.close
     (tie.spec
-    plain-product-requires
+    spread-product-requires
     returns
-    plain-sum-requires
+    spread-sum-requires
     returns-2
-    plain-quotient-requires
+    spread-quotient-requires
     returns-3)

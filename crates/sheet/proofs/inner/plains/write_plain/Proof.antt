@@ -6,6 +6,7 @@ use native.Mathlib.Omega.{arith}
 use lib.ListN.{length, getD}
 use borrow.Author.Needs.{needs}
 use Rattle.range.specs.Plain.{isPlain}
+use Rattle.range.specs.Spread.{isSpread}
 use Rattle.sheet.specs.Column.{answersOf}
 use Rattle.sheet.proofs.Copies.{Copied, copy-none, copy-one, copy-length, copy-whole}
 use Rattle.sheet.proofs.Pairs.{length-answers, answer-at}
@@ -35,9 +36,9 @@ mul-plain-answer-2 c = search needs
 shared-slice-read-plain-answer-2 : tie.Need-shared-slice-read-plain-answer-2 Inv-loop μ-loop
 shared-slice-read-plain-answer-2 c = search needs
 
--- the words of the next pair are plain
+-- the words of the next pair are such
 next-plain : (c : tie.In-loop Inv-loop μ-loop) → let a = c .before .before .before .before .before .args in let i = c .before .loop .i in
-    (isPlain (a .n) (getD (a .left .now) i 0) ≡ true) × (isPlain (a .n) (getD (a .right .now) i 0) ≡ true)
+    (isSpread (a .n) (getD (a .left .now) i 0) ≡ true) × (isPlain (a .n) (getD (a .right .now) i 0) ≡ true)
 next-plain c =
     let s = c .before .before .before .before .before in
     let a = s .args in

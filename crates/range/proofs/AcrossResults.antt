@@ -1,0 +1,254 @@
+-- The answer for a range across 0 and a plain one: products and quotients reach from the negative of the result of the two sizes to the result on the
+-- upper side, 0 between them, and sums from that of both starts to that of both ends.
+use mathlib.Core.Path.{_≡_, refl, sym, ap, ap₂, _∙_}
+use mathlib.Core.Bool.{Bool, true, false}
+use mathlib.Core.Logic.{_⊎_, inl, inr, _≢_}
+use Prim.Native.Nat.{ℕ, zero, suc, _+_, _-_, _*_, _/_, _%_, _^_, _≤_, _<_}
+use native.Mathlib.Omega.{arith}
+use native.Mathlib.Decide.{decLt}
+use Rattle.exact.specs.Fraction.{_+ᶠ_}
+use Rattle.bound.proofs.Extent.{NoMember}
+use Rattle.posit.specs.Format.{Format, nar}
+use Rattle.posit.specs.Parts.{chosenBy}
+use Rattle.posit.specs.Value.{value}
+use Rattle.posit.proofs.Mirror.{power-wider, negated-fits}
+use Rattle.posit.proofs.Patterns.{some-bit}
+use Rattle.range.specs.declared.inner.span.Span.{Span}
+use Rattle.range.specs.Word.{tiles, startTile, endTile, wordOf, openNar}
+use Rattle.range.specs.Member.{Real, Member}
+use Rattle.range.specs.Smallest.{Result}
+use Rattle.range.specs.Numbered.{patternAt}
+use Rattle.range.specs.Spans.{topCell, startCell, startTileAt, endTileAt, cellsOf, turnedTile, wordAt}
+use Rattle.range.specs.Computed.{cellOf, answerOf}
+use Rattle.range.specs.Cells.{sumStart, sumEnd, sumCells}
+use Rattle.range.specs.Signs.{CellAbove, resultCell, startEdge, endEdge, lastCell, positiveSome}
+use Rattle.range.specs.OneSign.{magnitudes}
+use Rattle.range.specs.Mixed.{around}
+use Rattle.range.specs.Plain.{isPlain, PlainEnd}
+use Rattle.range.specs.Across.{isAcross}
+use Rattle.range.proofs.Grid.{half, pattern-high}
+use Rattle.range.proofs.Places.{top-cell, placed, start-unbounded, end-unbounded}
+use Rattle.range.proofs.Tiles.{half-large, closed-half}
+use Rattle.range.proofs.RealWords.{kind-empty}
+use Rattle.range.proofs.WordAt.{word-at-some, word-at-none}
+use Rattle.range.proofs.Empty.{Usable, empty-kind-iff, computed-empty-word-iff, no-result-iff}
+use Rattle.range.proofs.SumCells.{start-found, end-found}
+use Rattle.range.proofs.SumRange.{sum-word, sum-answer}
+use Rattle.range.proofs.SignedCells.{product-answer, quotient-answer}
+use Rattle.range.proofs.ReachedCells.{start-limited, start-unlimited, end-limited, last-limited, last-no-right}
+use Rattle.range.proofs.Mixed.{mixed-products, mixed-quotients}
+use Rattle.range.proofs.PlainCells.{PlainTiles, firstOf, lastOf, plain-tiles, plain-cells, real-of-plain, plain-one-sign, plain-above, cells-ordered, last-there, start-posit-is, end-posit-is, start-mark-is, end-mark-is, start-posit-fits, end-posit-fits, plain-start, plain-end}
+use Rattle.range.proofs.PlainResults.{bothClosed, closed-small, lastFrom, end-tile-above, result-cell-above}
+use Rattle.range.proofs.AcrossCells.{AcrossTiles, belowOf, across-tiles, across-cells, across-mixed, across-ordered, real-of-across, negated-end, upper, lower, lower-last, below-posit-is, below-mark-is}
+
+-- ---- the last cell at two ends
+module _ (n : ℕ) (wide : 3 ≤ n) where
+  last-at : (k : ℕ) {c : ℕ} → (2 ^ n ≤ c) × (c ≤ topCell n) → CellAbove n (chosenBy k (2 * (c / 2)) c)
+  last-at zero (l, h) = record { above = omega (arith, half n (some-bit n wide)); there = omega arith }
+  last-at (suc k) (l, h) = record { above = l; there = h }
+
+  -- beyond the tiles of 0
+  pub end-tile-beyond : (s t : ℕ) {c e : ℕ} → 2 ^ n ≤ c → c ≤ topCell n → e ≡ endTileAt n (lastFrom s t c) → 2 ≤ e
+  end-tile-beyond s t {c} l h i =
+      let k = last-at (bothClosed s t) (l, h) in
+      omega (arith, i, end-tile-above n wide (k .above) (k .there), k, half n (some-bit n wide))
+
+last-from : (n es : ℕ) → 3 ≤ n → (divide : Bool) {p q : ℕ} → (0 < p) × (p < nar n) → (0 < q) × (q < nar n) → (k : ℕ) {c : ℕ} → c ≡ resultCell n es divide p q
+    → CellAbove n (chosenBy k (2 * (c / 2)) c)
+last-from n es wide divide f g k e = last-at n wide k (result-cell-above n es wide f g divide e)
+
+pub turned-tile-fits : (n t : ℕ) {x : ℕ} → x ≡ turnedTile n t → x < tiles n
+turned-tile-fits n t e = omega (arith, e, negated-fits n (t / 2), power-wider n)
+
+last-moved-down : (k c : ℕ) → k ≤ 1 → chosenBy k (2 * (c / 2)) c ≡ c - c % 2 * (1 - k)
+last-moved-down zero c h = omega arith
+last-moved-down (suc zero) c h = omega arith
+last-moved-down (suc (suc k)) c h = absurd (omega arith)
+
+pub moved-up-small : (s t c : ℕ) → c % 2 * (1 - bothClosed s t) ≤ c % 2
+moved-up-small s t c = by (bothClosed s t) (closed-small s t)
+  where
+    by : (k : ℕ) → k ≤ 1 → c % 2 * (1 - k) ≤ c % 2
+    by zero h = omega arith
+    by (suc k) h = let e : 1 - suc k ≡ 0 = omega arith in rw e (omega arith)
+
+module _ (n es : ℕ) (wide : 3 ≤ n) {y z w : ℕ} (p : PlainEnd n y) (q : PlainTiles n z w) where
+  product-last : {r : ℕ} → r ≡ resultCell n es false (y / 2) (w / 2) → lastFrom y w r ≡ lastCell n es false (endEdge n (lastOf n y)) (endEdge n (lastOf n w))
+  product-last {r} e =
+      last-limited n es false (endEdge n (lastOf n y)) (endEdge n (lastOf n w))
+      (end-limited n (lastOf n y) refl (omega (arith, last-there n wide p))) (end-limited n (lastOf n w) refl (omega (arith, last-there n wide (plain-end q))))
+      (lastOf n y) (lastOf n w) refl refl (e ∙ ap₂ (resultCell n es false) (end-posit-is n wide p) (end-posit-is n wide (plain-end q)))
+      (ap₂ (λ (i j : ℕ). chosenBy (i * j) (2 * (r / 2)) r) (sym (end-mark-is n wide p)) (sym (end-mark-is n wide (plain-end q))))
+
+  quotient-last : z ≢ 1 → {r : ℕ} → r ≡ resultCell n es true (y / 2) (z / 2) → lastFrom y z r ≡ lastCell n es true (endEdge n (lastOf n y)) (startEdge n (firstOf n z))
+  quotient-last d {r} e =
+      last-limited n es true (endEdge n (lastOf n y)) (startEdge n (firstOf n z))
+      (end-limited n (lastOf n y) refl (omega (arith, last-there n wide p))) (start-limited n (firstOf n z) refl (omega (arith, q, d)))
+      (lastOf n y) (firstOf n z) refl refl (e ∙ ap₂ (resultCell n es true) (end-posit-is n wide p) (start-posit-is n wide (plain-start q)))
+      (ap₂ (λ (i j : ℕ). chosenBy (i * j) (2 * (r / 2)) r) (sym (end-mark-is n wide p)) (sym (start-mark-is n wide (plain-start q))))
+
+  -- a divisor as near to 0 as can be leaves no limit
+  quotient-unlimited : z ≡ 1 → topCell n ≡ lastCell n es true (endEdge n (lastOf n y)) (startEdge n (firstOf n z))
+  quotient-unlimited e =
+      last-no-right n es true (endEdge n (lastOf n y)) (startEdge n (firstOf n z)) refl
+      (end-limited n (lastOf n y) refl (omega (arith, last-there n wide p))) (start-unlimited n (firstOf n z) refl (omega arith))
+
+-- ---- the word from the negatives of a cell to a cell
+module _ (n : ℕ) (wide : 3 ≤ n) where
+  reaching-word : {c d : ℕ} → CellAbove n c → CellAbove n d → {l x y w : ℕ} → l ≡ endTileAt n c → x ≡ turnedTile n l → y ≡ endTileAt n d → w ≡ wordOf n x y
+      → w ≡ wordAt n (record { lo = topCell n - c; hi = d })
+  reaching-word {c} {d} h k e f g i =
+      i ∙ ap₂ (wordOf n) (f ∙ ap (turnedTile n) e ∙ sym (negated-end n wide (h .there))) g
+      ∙ sym (word-at-some n (record { lo = topCell n - c; hi = d }) (omega (arith, h, k, top-cell n wide)))
+
+  unlimited-word : {x w : ℕ} → x ≡ 2 ^ n + 1 → w ≡ wordOf n x x → w ≡ wordAt n (record { lo = topCell n - topCell n; hi = topCell n })
+  unlimited-word {x} e i =
+      let p = placed n wide {t = openNar n} (omega (arith, closed-half wide, power-wider n, half-large wide)) (omega arith) in
+      let f : x ≡ openNar n = omega (arith, closed-half wide) in
+      let z : topCell n - topCell n ≡ startCell n (openNar n) = omega (arith, start-unbounded n wide) in
+      i
+      ∙ ap₂ (wordOf n) (f ∙ sym (ap (startTileAt n) z ∙ p .start-tile-back)) (f ∙ sym (ap (endTileAt n) (sym (end-unbounded n wide)) ∙ p .end-tile-back))
+      ∙ sym (word-at-some n (record { lo = topCell n - topCell n; hi = topCell n }) (omega arith))
+
+-- ---- the answers
+-- a range a across 0 and a plain range b, with the start tiles s and t and the end tiles u and v
+pub record AcrossEnds (n es a b s t u v : ℕ) : Type 0 where
+  pub format : Format n es
+  pub left-across : isAcross n a ≡ true
+  pub right-plain : isPlain n b ≡ true
+  pub left-start : s ≡ startTile n a
+  pub right-start : t ≡ startTile n b
+  pub left-end : u ≡ endTile n a
+  pub right-end : v ≡ endTile n b
+
+module _ {n es a b s t u v : ℕ} (o : AcrossEnds n es a b s t u v) where
+  pub wide : 3 ≤ n
+  wide = o .format .wide-enough
+
+  pub left-tiles : AcrossTiles n s u
+  left-tiles = rw (o .left-start, o .left-end) (across-tiles n a (o .left-across))
+
+  pub right-tiles : PlainTiles n t v
+  right-tiles = rw (o .right-start, o .right-end) (plain-tiles n b (o .right-plain))
+
+  left-real : Real n a
+  left-real = real-of-across n a wide (o .left-across)
+
+  right-real : Real n b
+  right-real = real-of-plain n b wide (o .right-plain)
+
+  left-cells : cellsOf n a ≡ record { lo = belowOf n s; hi = lastOf n u }
+  left-cells = rw (o .left-start, o .left-end) (across-cells n a wide (o .left-across))
+
+  abbrev right : Span
+  right = record { lo = firstOf n t; hi = lastOf n v }
+
+  right-cells : cellsOf n b ≡ right
+  right-cells = rw (o .right-start, o .right-end) (plain-cells n b wide (o .right-plain))
+
+  -- ---- products and quotients
+  -- the last cell of the results with an operand up to c
+  abbrev lastWith : Bool → ℕ → ℕ
+  lastWith divide c = positiveSome n es divide (record { lo = 2 ^ n; hi = c }) right .hi
+
+  abbrev results : Bool → Span
+  results divide = record { lo = topCell n - lastWith divide (lastOf n (turnedTile n s)); hi = lastWith divide (lastOf n u) }
+
+  around-results : (divide : Bool)
+      → around n (cellsOf n b) (positiveSome n es divide (record { lo = 2 ^ n; hi = topCell n - cellsOf n a .lo }) (magnitudes n (cellsOf n b)) .hi) (positiveSome n es divide (record { lo = 2 ^ n; hi = cellsOf n a .hi }) (magnitudes n (cellsOf n b)) .hi)
+      ≡ results divide
+  around-results divide = rw (plain-above n b wide (o .right-plain), left-cells, right-cells, lower-last n wide left-tiles)
+
+  products-are : wordAt n (results false) ≡ answerOf n es 2 a b
+  products-are =
+      sym (product-answer n es wide left-real right-real
+      ∙ ap (wordAt n) (sym (mixed-products n wide es (plain-one-sign n b wide (o .right-plain)) (across-mixed n a wide (o .left-across))) ∙ around-results false))
+
+  quotients-are : wordAt n (results true) ≡ answerOf n es 3 a b
+  quotients-are =
+      sym (quotient-answer n es wide left-real right-real
+      ∙ ap (wordAt n) (sym (mixed-quotients n wide es (plain-one-sign n b wide (o .right-plain)) (across-mixed n a wide (o .left-across))) ∙ around-results true))
+
+  -- m is the start with its posit negated
+  module _ {m : ℕ} (k : m ≡ turnedTile n s) where
+    pub size-tiles : PlainEnd n m
+    size-tiles = rw k (lower n wide left-tiles)
+
+    reaching : (divide : Bool) {c d : ℕ} → c ≡ lastWith divide (lastOf n m) → d ≡ lastWith divide (lastOf n u) → wordAt n (record { lo = topCell n - c; hi = d }) ≡ wordAt n (results divide)
+    reaching divide e f =
+        ap₂ (λ (c d : ℕ). wordAt n (record { lo = topCell n - c; hi = d })) (e ∙ ap (λ (q : ℕ). lastWith divide (lastOf n q)) k) f
+
+    module _ {below above : ℕ} where
+      pub product-found : below ≡ resultCell n es false (m / 2) (v / 2) → above ≡ resultCell n es false (u / 2) (v / 2)
+          → {l x y w : ℕ} → l ≡ endTileAt n (lastFrom m v below) → x ≡ turnedTile n l → y ≡ endTileAt n (lastFrom u v above) → w ≡ wordOf n x y → w ≡ answerOf n es 2 a b
+      product-found e f g h i j =
+          let p = size-tiles in
+          let q = upper n wide left-tiles in
+          let r = right-tiles in
+          reaching-word n wide (last-from n es wide false (end-posit-fits n wide p) (end-posit-fits n wide (plain-end r)) (bothClosed m v) e)
+          (last-from n es wide false (end-posit-fits n wide q) (end-posit-fits n wide (plain-end r)) (bothClosed u v) f) g h i j
+          ∙ reaching false (product-last n es wide p r e) (product-last n es wide q r f) ∙ products-are
+
+      pub quotient-found : t ≢ 1 → below ≡ resultCell n es true (m / 2) (t / 2) → above ≡ resultCell n es true (u / 2) (t / 2)
+          → {l x y w : ℕ} → l ≡ endTileAt n (lastFrom m t below) → x ≡ turnedTile n l → y ≡ endTileAt n (lastFrom u t above) → w ≡ wordOf n x y → w ≡ answerOf n es 3 a b
+      quotient-found d e f g h i j =
+          let p = size-tiles in
+          let q = upper n wide left-tiles in
+          let r = right-tiles in
+          reaching-word n wide (last-from n es wide true (end-posit-fits n wide p) (start-posit-fits n wide (plain-start r) d) (bothClosed m t) e)
+          (last-from n es wide true (end-posit-fits n wide q) (start-posit-fits n wide (plain-start r) d) (bothClosed u t) f) g h i j
+          ∙ reaching true (quotient-last n es wide p r d e) (quotient-last n es wide q r d f) ∙ quotients-are
+
+  pub quotient-without-limit : t ≡ 1 → {x w : ℕ} → x ≡ 2 ^ n + 1 → w ≡ wordOf n x x → w ≡ answerOf n es 3 a b
+  quotient-without-limit e f g =
+      unlimited-word n wide f g
+      ∙ ap₂ (λ (c d : ℕ). wordAt n (record { lo = topCell n - c; hi = d }))
+      (quotient-unlimited n es wide (lower n wide left-tiles) right-tiles e) (quotient-unlimited n es wide (upper n wide left-tiles) right-tiles e)
+      ∙ quotients-are
+
+  -- ---- sums
+  start-posit : t / 2 ≡ patternAt n ((firstOf n t - 1) / 2)
+  start-posit =
+      let e = half n (some-bit n wide) in
+      sym (pattern-high n (some-bit n wide) ((firstOf n t - 1) / 2) (omega (arith, right-tiles, e)) (omega (arith, right-tiles, e)) ∙ omega (arith, right-tiles, e))
+
+  some-member : {w : ℕ} → Real n w → cellsOf n w .lo ≤ cellsOf n w .hi → ¬ NoMember (Member n es w)
+  some-member {w} r l k = let h = kind-empty n wide w (r .fits) .0 (empty-kind-iff n es wide r .1 k) .1 in omega arith
+
+  some-sum : ¬ NoMember (Result n es 0 a b)
+  some-sum none = by (no-result-iff n es a b 0 (omega arith) .0 none)
+    where
+      by : NoMember (Member n es a) ⊎ NoMember (Usable n es 0 b) → ⊥
+      by (inl f) = some-member left-real (rw left-cells (across-ordered n wide left-tiles)) f
+      by (inr f) =
+          some-member right-real (rw right-cells (cells-ordered right-tiles)) (λ y m. f y (record { member = m; divisor = λ e. absurd (omega (arith, e)) }))
+
+  module _ {lo hi : ℕ} (e : lo ≡ cellOf n es (value n es (s / 2) +ᶠ value n es (t / 2))) (f : hi ≡ cellOf n es (value n es (u / 2) +ᶠ value n es (v / 2))) where
+    abbrev first : ℕ
+    first = lo + lo % 2 * (1 - bothClosed s t)
+
+    sum-first : first ≡ sumStart n es (belowOf n s) (firstOf n t)
+    sum-first =
+        ap₂ (λ (p q : ℕ). lo + lo % 2 * (1 - p * q)) (sym (below-mark-is n wide left-tiles)) (sym (start-mark-is n wide (plain-start right-tiles)))
+        ∙ start-found n es wide (belowOf n s) (firstOf n t) (below-posit-is n wide left-tiles) start-posit e (omega (arith, left-tiles)) (omega (arith, right-tiles, half-large wide))
+
+    sum-last : lastFrom u v hi ≡ sumEnd n es (lastOf n u) (lastOf n v)
+    sum-last =
+        last-moved-down (bothClosed u v) hi (closed-small u v)
+        ∙ ap₂ (λ (p q : ℕ). hi - hi % 2 * (1 - p * q)) (sym (end-mark-is n wide (upper n wide left-tiles))) (sym (end-mark-is n wide (plain-end right-tiles)))
+        ∙ end-found n es wide (lastOf n u) (lastOf n v) (last-there n wide (upper n wide left-tiles)) (last-there n wide (plain-end right-tiles))
+        (end-posit-is n wide (upper n wide left-tiles)) (end-posit-is n wide (plain-end right-tiles)) f
+
+    sums-are : wordAt n (record { lo = first; hi = lastFrom u v hi }) ≡ answerOf n es 0 a b
+    sums-are =
+        sym (sum-answer n es wide left-real right-real
+        ∙ ap₂ (λ (x y : Span). wordAt n (sumCells n es x y)) left-cells right-cells
+        ∙ sym (sum-word n es wide (record { lo = belowOf n s; hi = lastOf n u }) right sum-first sum-last (across-ordered n wide left-tiles) (cells-ordered right-tiles) refl))
+
+    pub sum-found : {x y w : ℕ} → x ≡ startTileAt n first → y ≡ endTileAt n (lastFrom u v hi) → w ≡ wordOf n x y → w ≡ answerOf n es 0 a b
+    sum-found i j g = g ∙ ap₂ (wordOf n) i j ∙ by (decLt (lastFrom u v hi) first)
+      where
+        by : Dec (lastFrom u v hi < first) → wordOf n (startTileAt n first) (endTileAt n (lastFrom u v hi)) ≡ answerOf n es 0 a b
+        by (yes l) =
+            absurd (some-sum (computed-empty-word-iff n es 0 a b wide (omega arith) .0 (sym sums-are ∙ word-at-none n (record { lo = first; hi = lastFrom u v hi }) l)))
+        by (no l) = sym (word-at-some n (record { lo = first; hi = lastFrom u v hi }) (omega arith)) ∙ sums-are

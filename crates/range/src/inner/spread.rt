@@ -1,0 +1,64 @@
+// Operations by tiles: a range above 0 or across it on the left, and one above 0 on the right.
+ghost use mathlib.Core.Path.{_≡_};
+ghost use mathlib.Core.Bool.{true};
+ghost use Prim.Native.Nat.{_/_, _%_, _^_, _≤_};
+ghost use lib.Dec.{eqb};
+ghost use Rattle.posit.specs.Format.{Format};
+ghost use Rattle.range.specs.Word.{startTile};
+ghost use Rattle.range.specs.Computed.{answerOf};
+ghost use Rattle.range.specs.Plain.{isPlain};
+ghost use Rattle.range.specs.Spread.{isSpread};
+use super::across::is_across;
+use super::across_results::across_product;
+use super::across_results::across_quotient;
+use super::across_results::across_sum;
+use super::plain::is_plain;
+use super::plain_results::plain_product;
+use super::plain_results::plain_quotient;
+use super::plain_results::plain_sum;
+use posit::inner::power::power;
+
+pub fn is_spread(n: u32, w: u64) -> bool
+    requires { ⌜ n ≤ 16 ⌝ }
+    ensures { λ r. ⌜ r ≡ isSpread n w ⌝ }
+{
+    is_plain(n, w) || is_across(n, w)
+}
+
+// Whether the start lies below 0: the first bit of its tile is its posit's sign.
+fn starts_below(n: u32, w: u64) -> bool
+    requires { ⌜ n ≤ 16 ⌝ }
+    ensures { λ r. ⌜ r ≡ eqb (startTile n w / 2 ^ n % 2) 1 ⌝ }
+{
+    w / power(n + 1) / power(n) % 2 == 1
+}
+
+pub fn spread_sum(n: u32, es: u32, a: u64, b: u64) -> u64
+    requires { ⌜ (Format n es) × (isSpread n a ≡ true) × (isPlain n b ≡ true) ⌝ }
+    ensures { λ r. ⌜ r ≡ answerOf n es 0 a b ⌝ }
+{
+    if starts_below(n, a) {
+        return across_sum(n, es, a, b);
+    }
+    plain_sum(n, es, a, b)
+}
+
+pub fn spread_product(n: u32, es: u32, a: u64, b: u64) -> u64
+    requires { ⌜ (Format n es) × (isSpread n a ≡ true) × (isPlain n b ≡ true) ⌝ }
+    ensures { λ r. ⌜ r ≡ answerOf n es 2 a b ⌝ }
+{
+    if starts_below(n, a) {
+        return across_product(n, es, a, b);
+    }
+    plain_product(n, es, a, b)
+}
+
+pub fn spread_quotient(n: u32, es: u32, a: u64, b: u64) -> u64
+    requires { ⌜ (Format n es) × (isSpread n a ≡ true) × (isPlain n b ≡ true) ⌝ }
+    ensures { λ r. ⌜ r ≡ answerOf n es 3 a b ⌝ }
+{
+    if starts_below(n, a) {
+        return across_quotient(n, es, a, b);
+    }
+    plain_quotient(n, es, a, b)
+}
