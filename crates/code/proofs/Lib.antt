@@ -6,5 +6,7 @@ pub mod ProductCode
 pub mod QuotientCode
 pub mod Alignment
 pub mod Summed
+pub mod Doubles
+pub mod DoubleCode
 pub mod Cutting
 pub mod Stepping

@@ -30,13 +30,47 @@ use Rattle.code.proofs.Alignment.{Leads, unitsOf, aligned-leads}
 
 -- ---- two numbers over one power of two
 module _ (u M N : ℕ) where
-  over-both : (overPower (pos M) u +ᶠ overPower (pos N) u) ≈ overPower (pos (M + N)) u
+  pub over-both : (overPower (pos M) u +ᶠ overPower (pos N) u) ≈ overPower (pos (M + N)) u
   over-both = overPower-+ᶠ u (pos M) (pos N)
 
   over-difference : N ≤ M → (overPower (pos M) u -ᶠ overPower (pos N) u) ≈ overPower (pos (M - N)) u
   over-difference h =
       let d : pos M -ℤ pos N ≡ pos (M - N) = simp spread (simp parts (omega arith)) in
       rw d at (overPower-difference u (pos M) (pos N))
+
+-- ---- two of them with signs
+pub sign-none : (b : Bool) (u : ℕ) → withSignᶠ b (overPower (pos 0) u) ≈ whole (pos 0)
+sign-none true u = ≈0 .1 refl
+sign-none false u = ≈0 .1 refl
+
+module _ (u M N : ℕ) (b : Bool) where
+  -- one sign: the sizes add
+  pub alike-over : withSignᶠ b (withSignᶠ b (overPower (pos M) u) +ᶠ withSignᶠ b (overPower (pos N) u)) ≈ overPower (pos (M + N)) u
+  alike-over =
+      sign-cong b (≈-sym (sign-sum b (overPower (pos M) u) (overPower (pos N) u)))
+      ⨾ sign-twice b (overPower (pos M) u +ᶠ overPower (pos N) u)
+      ⨾ over-both u M N
+
+  -- two signs: the difference has the sign of the greater one
+  pub more-over : N ≤ M → withSignᶠ b (withSignᶠ b (overPower (pos M) u) +ᶠ withSignᶠ (not b) (overPower (pos N) u)) ≈ overPower (pos (M - N)) u
+  more-over h =
+      sign-cong b (sign-difference b (overPower (pos M) u) (overPower (pos N) u))
+      ⨾ sign-twice b (overPower (pos M) u -ᶠ overPower (pos N) u)
+      ⨾ over-difference u M N h
+
+  pub less-over : M ≤ N → withSignᶠ (not b) (withSignᶠ b (overPower (pos M) u) +ᶠ withSignᶠ (not b) (overPower (pos N) u)) ≈ overPower (pos (N - M)) u
+  less-over h =
+      sign-cong (not b) (sign-difference b (overPower (pos M) u) (overPower (pos N) u))
+      ⨾ sign-other b (overPower (pos M) u -ᶠ overPower (pos N) u)
+      ⨾ negᶠ-difference (overPower (pos M) u) (overPower (pos N) u)
+      ⨾ over-difference u N M h
+
+  pub none-over : M ≡ N → (withSignᶠ b (overPower (pos M) u) +ᶠ withSignᶠ (not b) (overPower (pos N) u)) ≈ whole (pos 0)
+  none-over same =
+      let none : M - N ≡ 0 = omega (arith, same) in
+      sign-difference b (overPower (pos M) u) (overPower (pos N) u)
+      ⨾ sign-cong b (rw none at (over-difference u M N (omega (arith, same))))
+      ⨾ sign-none b u
 
 -- ---- the sum and the difference, cut
 bits-more : (es : ℕ) → codeBits 28 es ≡ codeBits 14 es + 14
@@ -75,10 +109,6 @@ leads-same {scale} {upper = upper} {lower = lower} false l z =
 leads-same true l z = let no : ⊥ = omega (arith, l .at-least, l .far-below refl) in absurd no
 
 -- ---- the sum of two codes
-sign-none : (b : Bool) (u : ℕ) → withSignᶠ b (overPower (pos 0) u) ≈ whole (pos 0)
-sign-none true u = ≈0 .1 refl
-sign-none false u = ≈0 .1 refl
-
 first-sign : (b : Bool) → not (Bool·beq b (not (Bool·beq b (not b)) && false)) ≡ b
 first-sign true = refl
 first-sign false = refl
@@ -135,39 +165,20 @@ module _ {x y : ℕ} {a : Aligned} (o : AlignedOf x y a) where
         (rw both-units at (sum-known es (aligned-leads x y o)))
 
     same-known : (b : Bool) → Knows es (a .scale) (a .upper + a .lower) (a .lost) (withSignᶠ b (withSignᶠ b (codeValue 14 es x) +ᶠ withSignᶠ b (codeValue 14 es y)))
-    same-known b =
-        within-respects
-        (≈-sym (sign-cong b (≈-sym (sign-sum b (codeValue 14 es x) (codeValue 14 es y))) ⨾ sign-twice b (codeValue 14 es x +ᶠ codeValue 14 es y)))
-        both-known
+    same-known b = within-respects (≈-sym (alike-over (codeBits 14 es) (unitsOf x) (unitsOf y) b)) (rw both-units at (sum-known es (aligned-leads x y o)))
 
     differ-known : (b t : Bool) → ltb x y ≡ t
         → Knows es (a .scale) (sizeOf true a) (a .lost)
         (withSignᶠ (not (Bool·beq b (not (Bool·beq b (not b)) && t))) (withSignᶠ b (codeValue 14 es x) +ᶠ withSignᶠ (not b) (codeValue 14 es y)))
     differ-known b false t =
         let known = difference-known es (a .lost) (sizeOf true a) (in-order (ltb-false x y t)) refl in
-        rw (first-sign b)
-        (within-respects
-        (≈-sym (sign-cong b (sign-difference b (codeValue 14 es x) (codeValue 14 es y))
-        ⨾ sign-twice b (codeValue 14 es x -ᶠ codeValue 14 es y)
-        ⨾ over-difference (codeBits 14 es) (unitsOf x) (unitsOf y) (known .0)))
-        (known .1))
+        rw (first-sign b) (within-respects (≈-sym (more-over (codeBits 14 es) (unitsOf x) (unitsOf y) b (known .0))) (known .1))
     differ-known b true t =
         let known = difference-known es (a .lost) (sizeOf true a) (turned (le-of-lt (ltb-true x y t))) refl in
-        rw (second-sign b)
-        (within-respects
-        (≈-sym (sign-cong (not b) (sign-difference b (codeValue 14 es x) (codeValue 14 es y))
-        ⨾ sign-other b (codeValue 14 es x -ᶠ codeValue 14 es y)
-        ⨾ negᶠ-difference (codeValue 14 es x) (codeValue 14 es y)
-        ⨾ over-difference (codeBits 14 es) (unitsOf y) (unitsOf x) (known .0)))
-        (known .1))
+        rw (second-sign b) (within-respects (≈-sym (less-over (codeBits 14 es) (unitsOf x) (unitsOf y) b (known .0))) (known .1))
 
     differ-none : (b : Bool) → sizeOf true a ≡ 0 → (withSignᶠ b (codeValue 14 es x) +ᶠ withSignᶠ (not b) (codeValue 14 es y)) ≈ whole (pos 0)
-    differ-none b z =
-        let same : unitsOf x ≡ unitsOf y = same-units z in
-        let none : unitsOf x - unitsOf y ≡ 0 = omega (arith, same) in
-        sign-difference b (codeValue 14 es x) (codeValue 14 es y)
-        ⨾ sign-cong b (rw none at (over-difference (codeBits 14 es) (unitsOf x) (unitsOf y) (omega (arith, same))))
-        ⨾ sign-none b (codeBits 14 es)
+    differ-none b z = none-over (codeBits 14 es) (unitsOf x) (unitsOf y) b (same-units z)
 
     signed-known : (less under : Bool)
         → Knows es (a .scale) (sizeOf (not (Bool·beq less under)) a) (a .lost)

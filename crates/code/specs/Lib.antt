@@ -2,3 +2,4 @@ pub mod Code
 pub mod Coded
 pub mod Aligned
 pub mod Step
+pub mod Double

@@ -1,6 +1,7 @@
 // What the ranges use; these functions may ask something of their caller.
 pub mod aligned;
 pub mod coded;
+pub mod double;
 pub mod flip;
 pub mod form;
 pub mod product;

@@ -46,14 +46,14 @@ minus-is a l s e = given e (given (minus-back a l) (simp spread (simp parts (ome
 
 -- ---- a pattern of three fields
 module _ (x t : ℕ) (some : 0 < x) (few : x < 2047) (less : t < 2 ^ 52) where
-  unsigned-read : ofBits binary64 (x * 2 ^ 52 + t) ≡ odd 53 false (2 ^ 52 + t) (x - 1) 1074
+  pub unsigned-read : ofBits binary64 (x * 2 ^ 52 + t) ≡ odd 53 false (2 ^ 52 + t) (x - 1) 1074
   unsigned-read =
       let b = x * 2 ^ 52 + t in
       let exponent : field b ≡ x = omega arith in
       let fraction : digits b ≡ t = omega arith in
       read b ∙ rw (lt-leb (2 ^ 63) b (omega arith), exponent, fraction) (normal-read false x t some few)
 
-  signed-read : ofBits binary64 (2 ^ 63 + (x * 2 ^ 52 + t)) ≡ odd 53 true (2 ^ 52 + t) (x - 1) 1074
+  pub signed-read : ofBits binary64 (2 ^ 63 + (x * 2 ^ 52 + t)) ≡ odd 53 true (2 ^ 52 + t) (x - 1) 1074
   signed-read =
       let b = 2 ^ 63 + (x * 2 ^ 52 + t) in
       let exponent : field b ≡ x = omega arith in

@@ -109,8 +109,8 @@ module _ (n : ℕ) (wide : 3 ≤ n) {s u : ℕ} (p : AcrossTiles n s u) where
   pub below-mark-is : belowOf n s % 2 ≡ 1 - s % 2
   below-mark-is = omega (arith, p, even)
 
-  pub below-finite : Finite n (s / 2)
-  below-finite = record { fits = omega (arith, p, power-wider n); not-nar = omega (arith, p, even) }
+  pub below-posit : (nar n < s / 2) × (s / 2 < 2 ^ n)
+  below-posit = (omega (arith, p, even), omega (arith, p, power-wider n))
 
 -- ---- a word across 0
 module _ (n w : ℕ) (wide : 3 ≤ n) (h : isAcross n w ≡ true) where

@@ -78,8 +78,11 @@ module _ (n : ℕ) (wide : 3 ≤ n) where
     pub start-posit-fits : s ≢ openZero → (0 < s / 2) × (s / 2 < nar n)
     start-posit-fits d = omega (arith, p, even)
 
+    pub start-below : s / 2 < nar n
+    start-below = omega (arith, p, even)
+
     pub start-finite : Finite n (s / 2)
-    start-finite = finite (omega (arith, p, even))
+    start-finite = finite start-below
 
     pub start-posit-is : s / 2 ≡ startEdge n (firstOf n s) .posit
     start-posit-is = omega (arith, p) ∙ start-by-count n wide {c = firstOf n s} (omega (arith, p)) (omega (arith, p, power-wider n))

@@ -1,7 +1,7 @@
 -- The outermost cells of all sums: beside no bound there is none, and the sum of two bounds is the sum of the posits they stand on, closed where both
 -- are; its cell is that of the exact sum.
 use mathlib.Core.Path.{_≡_, refl, sym, ap, _∙_, subst}
-use mathlib.Core.Bool.{Bool}
+use mathlib.Core.Bool.{Bool, true, false}
 use mathlib.Core.Logic.{_⊎_, inl, inr}
 use Prim.Native.Nat.{ℕ, zero, suc, _+_, _-_, _*_, _/_, _%_, _^_, _≤_, _<_}
 use native.Mathlib.Omega.{arith}
@@ -74,6 +74,29 @@ module _ {n es p half turned : ℕ} (f : Format n es) (g : Spec.Finite n p) (mor
       by (below h) = rw (lt-leb half p (omega arith)) (rw (e ∙ positive h) at (k .says))
       by (above h u) =
           rw (le-leb half p (omega arith), value-above n es (some-bit n (f .wide-enough)) h u) (negᶠ-cong (rw (e ∙ negative h) at (k .says)))
+
+-- ---- posits on either side of 0
+module _ {n es : ℕ} (f : Format n es) where
+  even : 2 ^ n ≡ 2 * Spec.nar n
+  even = nar-is-half n (some-bit n (f .wide-enough))
+
+  pub below-finite : {p : ℕ} → p < Spec.nar n → Spec.Finite n p
+  below-finite h = record { fits = omega (arith, even); not-nar = omega arith }
+
+  module _ {p : ℕ} (h : Spec.nar n < p) (u : p < 2 ^ n) where
+    pub above-finite : Spec.Finite n p
+    above-finite = record { fits = u; not-nar = omega arith }
+
+    pub size-below : {all : ℕ} → all ≡ 2 ^ n → (0 < all - p) × (all - p < Spec.nar n)
+    size-below e = (omega arith, omega (arith, even))
+
+    pub across-signed : {all x : ℕ} → all ≡ 2 ^ n → CodeOf n es (all - p) x → SignedOf n es p (record { negative = true; size = x })
+    across-signed {all} {x} e k =
+        let turned : Spec.negated n p ≡ all - p = negated-positive n {p = p} (omega arith) u ∙ omega arith in
+        record { code = k .code; says = rw (value-above n es (some-bit n (f .wide-enough)) h u, turned) (negᶠ-cong (k .says)) }
+
+pub above-signed : {n es q y : ℕ} → CodeOf n es q y → SignedOf n es q (record { negative = false; size = y })
+above-signed k = record { code = k .code; says = k .says }
 
 -- ---- the cell of an exact sum
 module _ (n es : ℕ) (wide : 3 ≤ n) where

@@ -41,6 +41,11 @@ pub record SignedOf (n es p : ℕ) (r : Signed) : Type 0 where
   pub code : IsCode es (r .size)
   pub says : withSignᶠ (r .negative) (codeValue 14 es (r .size)) ≈ value n es p
 
+-- the cells of the sum of p and q and of the sum of r and s
+pub record Totals (n es p q r s : ℕ) (t : Span) : Type 0 where
+  pub first : t .lo ≡ cellOf n es (value n es p +ᶠ value n es q)
+  pub last : t .hi ≡ cellOf n es (value n es r +ᶠ value n es s)
+
 -- ---- sums: the bounds that stand at a start and at an end cell, and the outermost cells of all sums between them
 abbrev pub startAt : ℕ → ℕ → ℕ → Bound Fraction
 startAt n es c = map-bound (valueAt n es) (read-start c)

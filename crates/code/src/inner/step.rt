@@ -4,10 +4,16 @@ ghost use Rattle.code.specs.Coded.{Fits};
 ghost use Rattle.code.specs.Step.{StepOf};
 use super::coded::Coded;
 use super::flip::flipped;
-use super::form::FIRST;
-use super::form::REGIME;
-use super::form::TO_TAIL;
 use posit::inner::power::power;
+
+// 2 to the power of the number of a word's first bit.
+const FIRST: u64 = 0x8000_0000_0000_0000;
+
+// Seven bits of a word are the regime's, and the 57 below are the tail's.
+const REGIME: u64 = 0x0200_0000_0000_0000;
+
+// A word whose first bit closes the run, moved down by so much, has its tail in its place.
+const TO_TAIL: u64 = 64;
 
 // Moved up by so many places less the exponent size, a code has its regime in a word's first seven bits.
 const TO_REGIME: u32 = 28;
@@ -20,7 +26,7 @@ const WORD: u32 = 64;
 // What a run of ones leaves in the lowest places of a word that is turned over; no digit reaches them.
 const LOWEST: u64 = 63;
 
-// The way of `code_of` back: the first bit closes the run, the tail stands behind it, and both are moved down by the length of the run.
+// The way from a code to its pattern: the first bit closes the run, the tail stands behind it, and both are moved down by the length of the run.
 pub fn step_of(n: u32, es: u32, c: Coded) -> u32
     requires { ⌜ (Format n es) × (Fits es (c .code)) ⌝ }
     ensures { λ r. ⌜ StepOf n es c r ⌝ }

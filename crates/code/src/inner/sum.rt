@@ -7,9 +7,14 @@ ghost use Rattle.posit.specs.Magnitudes.{withSignᶠ};
 ghost use Rattle.code.specs.Code.{IsCode, codeValue};
 ghost use Rattle.code.specs.Coded.{IsSignedSum};
 ghost use Rattle.code.specs.Aligned.{sizeOf};
+ghost use Rattle.code.specs.Double.{Near};
 use super::aligned::Aligned;
 use super::aligned::align;
 use super::coded::Coded;
+use super::double::SIGN;
+use super::double::coded_of;
+use super::double::double_of;
+use super::double::is_far;
 use posit::inner::power::highest_bit;
 use posit::inner::power::power;
 
@@ -38,8 +43,8 @@ fn size(differ: bool, a: Aligned) -> u64
     more
 }
 
-// The sum of x, below 0 where `less`, and y, below 0 where `under`; it has the sign of the greater one.
-pub fn signed_sum(es: u32, less: bool, x: u64, under: bool, y: u64) -> SignedSum
+// Scales far apart: the lesser one is put under the scale of the greater one, whose sign the sum has.
+fn far_sum(es: u32, less: bool, x: u64, under: bool, y: u64) -> SignedSum
     requires { ⌜ (es ≤ 2) × (IsCode es x) × (IsCode es y) ⌝ }
     ensures { λ r. ⌜ IsSignedSum es (withSignᶠ less (codeValue 14 es x) +ᶠ withSignᶠ under (codeValue 14 es y)) r ⌝ }
 {
@@ -58,4 +63,32 @@ pub fn signed_sum(es: u32, less: bool, x: u64, under: bool, y: u64) -> SignedSum
             lost: both.lost,
         },
     }
+}
+
+// Scales that are near: a double holds the sum.
+pub fn near_sum(es: u32, less: bool, x: u64, under: bool, y: u64) -> SignedSum
+    requires { ⌜ (es ≤ 2) × (IsCode es x) × (IsCode es y) × (Near x y) ⌝ }
+    ensures { λ r. ⌜ IsSignedSum es (withSignᶠ less (codeValue 14 es x) +ᶠ withSignᶠ under (codeValue 14 es y)) r ⌝ }
+{
+    let sum = double_of(es, less, x) + double_of(es, under, y);
+    let bits = f64::to_bits(sum);
+    let size = bits % SIGN;
+    if size == 0 {
+        return SignedSum::Nothing;
+    }
+    SignedSum::Something {
+        negative: SIGN <= bits,
+        size: coded_of(es, size),
+    }
+}
+
+// The sum of x, below 0 where `less`, and y, below 0 where `under`.
+pub fn signed_sum(es: u32, less: bool, x: u64, under: bool, y: u64) -> SignedSum
+    requires { ⌜ (es ≤ 2) × (IsCode es x) × (IsCode es y) ⌝ }
+    ensures { λ r. ⌜ IsSignedSum es (withSignᶠ less (codeValue 14 es x) +ᶠ withSignᶠ under (codeValue 14 es y)) r ⌝ }
+{
+    if is_far(x, y) {
+        return far_sum(es, less, x, under, y);
+    }
+    near_sum(es, less, x, under, y)
 }

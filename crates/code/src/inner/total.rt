@@ -1,19 +1,17 @@
-// The exact sum of two magnitudes by their codes.
+// The exact sum of two magnitudes whose scales are near: a double holds it.
 ghost use Prim.Native.Nat.{_≤_};
 ghost use Rattle.exact.specs.Fraction.{_+ᶠ_};
 ghost use Rattle.code.specs.Code.{IsCode, codeValue};
 ghost use Rattle.code.specs.Coded.{Codes};
-use super::aligned::align;
+ghost use Rattle.code.specs.Double.{Near};
 use super::coded::Coded;
-use super::coded::code_from;
+use super::double::coded_of;
+use super::double::double_of;
 
-pub fn total(es: u32, x: u64, y: u64) -> Coded
-    requires { ⌜ (es ≤ 2) × (IsCode es x) × (IsCode es y) ⌝ }
+pub fn near_total(es: u32, x: u64, y: u64) -> Coded
+    requires { ⌜ (es ≤ 2) × (IsCode es x) × (IsCode es y) × (Near x y) ⌝ }
     ensures { λ r. ⌜ Codes es (codeValue 14 es x +ᶠ codeValue 14 es y) r ⌝ }
 {
-    let both = align(es, x, y);
-    Coded {
-        code: code_from(both.scale, both.upper + both.lower),
-        lost: both.lost,
-    }
+    let sum = double_of(es, false, x) + double_of(es, false, y);
+    coded_of(es, f64::to_bits(sum))
 }

@@ -9,7 +9,7 @@ ghost use Rattle.range.specs.Computed.{answerOf};
 ghost use Rattle.range.specs.Plain.{isPlain};
 ghost use Rattle.range.specs.Spans.{topCell, startTileAt, turnedTile};
 ghost use Rattle.range.specs.Word.{tiles};
-use super::add::sum_cell;
+use super::add::across_cell;
 use super::add::total_cell;
 use super::plain::OPEN_ZERO;
 use super::plain_results::end_tile_from;
@@ -31,7 +31,7 @@ fn negated_tile(n: u32, tile: u32) -> u32
 
 // The start tile of the sums from the tiles s and t on, by the cell of their exact sum: that cell's, or the gap's above it unless both are
 // closed.
-fn sum_start_tile(n: u32, s: u32, t: u32, cell: u32) -> u32
+fn across_start_tile(n: u32, s: u32, t: u32, cell: u32) -> u32
     requires { ⌜ (3 ≤ n) × (n ≤ 16) × (cell ≤ topCell n) ⌝ }
     ensures { λ r. ⌜ r ≡ startTileAt n (cell + cell % 2 * (1 - (1 - s % 2) * (1 - t % 2))) ⌝ }
 {
@@ -48,9 +48,13 @@ pub fn across_sum(n: u32, es: u32, a: u64, b: u64) -> u64
     let t = start_tile(n, b);
     let u = end_tile(n, a);
     let v = end_tile(n, b);
-    let lo = sum_cell(n, es, s / 2, t / 2);
+    let lo = across_cell(n, es, s / 2, t / 2);
     let hi = total_cell(n, es, u / 2, v / 2);
-    joined(n, sum_start_tile(n, s, t, lo), end_tile_from(n, u, v, hi))
+    joined(
+        n,
+        across_start_tile(n, s, t, lo),
+        end_tile_from(n, u, v, hi),
+    )
 }
 
 // From the start times the end of b to the product of both ends; the first is the negative of the product of their sizes.

@@ -1,8 +1,8 @@
 -- `range::inner::across_results::across_sum` meets its contract: the sums reach from that of the starts to that of the ends (`AcrossResults`).
 use Rattle.range.proofs.CellFrom.{cell-bounded}
-use Rattle.range.proofs.PlainCells.{real-of-plain, start-finite, end-posit-fits, plain-start, plain-end}
+use Rattle.range.proofs.PlainCells.{real-of-plain, start-below, end-posit-fits, plain-start, plain-end}
 use Rattle.range.proofs.PlainResults.{sum-cell-above, start-tile-fits, end-tile-fits}
-use Rattle.range.proofs.AcrossCells.{real-of-across, below-finite, upper}
+use Rattle.range.proofs.AcrossCells.{real-of-across, below-posit, upper}
 use Rattle.range.proofs.AcrossResults.{AcrossEnds, wide, left-tiles, right-tiles, sum-found}
 use Rattle.range.proofs.inner.across_results.across_sum.Statement.{statement}
 use Rattle.range.proofs.inner.across_results.across_sum.Tie as tie
@@ -42,11 +42,12 @@ end-tile-requires-2 c κs =
     let start = c .before .before .before in
     (start .pre .0 .not-too-wide, real-of-plain (start .args .n) (start .args .b) (start .pre .0 .wide-enough) (start .pre .2) .fits)
 
-sum-cell-requires : tie.Need-sum-cell-requires
-sum-cell-requires c κs =
+across-cell-requires : tie.Need-across-cell-requires
+across-cell-requires c κs =
     let o = opened c in
     let n = begun c .args .n in
-    (o .format, below-finite n (wide o) (left-tiles o), start-finite n (wide o) (plain-start (right-tiles o)))
+    let k = below-posit n (wide o) (left-tiles o) in
+    (o .format, k .0, k .1, start-below n (wide o) (plain-start (right-tiles o)))
 
 total-cell-requires : tie.Need-total-cell-requires
 total-cell-requires c κs =
@@ -56,11 +57,11 @@ total-cell-requires c κs =
     let q = end-posit-fits n (wide o) (plain-end (right-tiles o)) in
     (o .format, p .0, p .1, q .0, q .1)
 
-sum-start-tile-requires : tie.Need-sum-start-tile-requires
-sum-start-tile-requires c κs =
+across-start-tile-requires : tie.Need-across-start-tile-requires
+across-start-tile-requires c κs =
     let start = begun (c .before .before) in
     let o = opened (c .before .before) in
-    (wide o, o .format .not-too-wide, rw (c .before .sum-cell .ensures) (cell-bounded (start .args .n) (start .args .es) (wide o) _))
+    (wide o, o .format .not-too-wide, rw (c .before .across-cell .ensures) (cell-bounded (start .args .n) (start .args .es) (wide o) _))
 
 end-tile-from-requires : tie.Need-end-tile-from-requires
 end-tile-from-requires c κs =
@@ -74,12 +75,12 @@ joined-requires : tie.Need-joined-requires
 joined-requires c κs =
     let start = begun (c .before .before .before .before) in
     let o = opened (c .before .before .before .before) in
-    (o .format .not-too-wide, rw (c .before .sum-start-tile .ensures) (start-tile-fits (start .args .n) _), rw (c .end-tile-from .ensures) (end-tile-fits (start .args .n) _ (wide o)))
+    (o .format .not-too-wide, rw (c .before .across-start-tile .ensures) (start-tile-fits (start .args .n) _), rw (c .end-tile-from .ensures) (end-tile-fits (start .args .n) _ (wide o)))
 
 returns : tie.Need-returns
 returns c =
-    sum-found (opened (c .before .before .before .before .before)) (c .before .before .before .before .sum-cell .ensures) (c .before .before .before .total-cell .ensures)
-    (c .before .before .sum-start-tile .ensures) (c .before .end-tile-from .ensures) (c .joined .ensures)
+    sum-found (opened (c .before .before .before .before .before)) (c .before .before .before .before .across-cell .ensures) (c .before .before .before .total-cell .ensures)
+    (c .before .before .across-start-tile .ensures) (c .before .end-tile-from .ensures) (c .joined .ensures)
 
 pub across-sum-spec : {M : Type 1} → statement M
 across-sum-spec =
@@ -89,9 +90,9 @@ across-sum-spec =
     start-tile-requires-2
     end-tile-requires
     end-tile-requires-2
-    sum-cell-requires
+    across-cell-requires
     total-cell-requires
-    sum-start-tile-requires
+    across-start-tile-requires
     end-tile-from-requires
     joined-requires
     returns)

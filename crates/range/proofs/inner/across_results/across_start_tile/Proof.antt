@@ -1,12 +1,12 @@
--- `range::inner::across_results::sum_start_tile` meets its contract: the topmost cell is even, so the gap above another one is a cell too.
+-- `range::inner::across_results::across_start_tile` meets its contract: the topmost cell is even, so the gap above another one is a cell too.
 use native.Mathlib.Omega.{arith}
 use borrow.Author.Needs.{needs}
 use Rattle.posit.proofs.Mirror.{power-wider}
 use Rattle.range.proofs.Tiles.{half-small}
 use Rattle.range.proofs.PlainResults.{closed-small}
 use Rattle.range.proofs.AcrossResults.{moved-up-small}
-use Rattle.range.proofs.inner.across_results.sum_start_tile.Statement.{statement}
-use Rattle.range.proofs.inner.across_results.sum_start_tile.Tie as tie
+use Rattle.range.proofs.inner.across_results.across_start_tile.Statement.{statement}
+use Rattle.range.proofs.inner.across_results.across_start_tile.Tie as tie
 
 sub-open : tie.Need-sub-open
 sub-open c = search needs
@@ -32,8 +32,8 @@ start-tile-at-requires c κs = (c .pre .1, omega (arith, moved-up-small (c .args
 returns : tie.Need-returns
 returns c = search needs
 
-pub sum-start-tile-spec : {M : Type 1} → statement M
-sum-start-tile-spec =
+pub across-start-tile-spec : {M : Type 1} → statement M
+across-start-tile-spec =
     tie.close
     (tie.spec
     sub-open

@@ -1,0 +1,18 @@
+-- The bits of a double without its sign: a code with 52 digits behind the first, but that the scale is counted from elsewhere.
+use mathlib.Core.Bool.{not}
+use Prim.Native.Nat.{ℕ, _-_, _*_, _/_, _%_, _^_, _+_, _<_}
+use lib.Dec.{eqb}
+use Rattle.code.specs.declared.inner.coded.Coded.{Coded}
+
+-- what a code's scale is counted from, as a double's exponent at its place
+abbrev pub lowest : ℕ → ℕ
+lowest es = (1023 - 64 * 2 ^ es) * 2 ^ 52
+
+-- the bits cut to 29 digits behind the first
+abbrev pub codedOf : ℕ → ℕ → Coded
+codedOf es bits = record { code = (bits - lowest es) / 2 ^ 23; lost = not (eqb ((bits - lowest es) % 2 ^ 23) 0) }
+
+-- codes whose scales are at most 36 apart
+pub record Near (x y : ℕ) : Type 0 where
+  pub first : x < y + 36 * 2 ^ 14
+  pub second : y < x + 36 * 2 ^ 14
