@@ -1,10 +1,12 @@
 //! The posit calls in plain Rust, by the steps of the proved code, without proofs.
 
+mod code;
+pub mod column;
 mod float;
-mod normal;
 mod operate;
 pub mod range;
 mod sum;
+mod tiles;
 
 pub use float::{from_float, to_float};
 use jorumrain::raw::{PositAnswer, PositComparison, PositDecoding};

@@ -13,15 +13,17 @@ const MULTIPLY: u8 = 2;
 const DIVIDE: u8 = 3;
 
 /// What the columns of the table are, after the format, the call and the ranges.
-const HEADS: [&str; 10] = [
+const HEADS: [&str; 12] = [
     "Proved, single calls",
+    "Plain Rust, single calls",
     "Proved, column call",
-    "Plain Rust",
+    "Plain Rust, column call",
     "Boost",
     "Boost, base checking",
     "Boost, mode set once",
     "MPFI",
     "Second program",
+    "Proved / plain",
     "Boost / proved",
     "MPFI / proved",
 ];
@@ -50,10 +52,11 @@ fn line(column: &Ranges, op: u8) -> String {
         hold_peer(column, op, *peer, columns);
     }
     let lent = RefCell::new(vec![0; LENGTH]);
-    let [single, combined, plain, boost, base, once, mpfi, second] = nanoseconds([
+    let [single, plain, combined, whole, boost, base, once, mpfi, second] = nanoseconds([
         &|| pass(column, |c, row| proved(c, op, row)),
-        &|| combine(column, op, &mut lent.borrow_mut()),
         &|| pass(column, |c, row| plain_operation(c, op, row)),
+        &|| combine(column, op, &mut lent.borrow_mut()),
+        &|| plain_combine(column, op, &mut lent.borrow_mut()),
         &|| peers[0].combine(op),
         &|| peers[1].combine(op),
         &|| peers[2].combine(op),
@@ -61,8 +64,9 @@ fn line(column: &Ranges, op: u8) -> String {
         &|| pass(column, |c, row| second_operation(c, op, row)),
     ]);
     let peers = format!("{boost:.1} | {base:.1} | {once:.1} | {mpfi:.1}");
-    let ratios = format!("{:.2} | {:.2}", boost / combined, mpfi / combined);
-    format!("{single:.1} | {combined:.1} | {plain:.1} | {peers} | {second:.1} | {ratios}")
+    let ours = format!("{single:.1} | {plain:.1} | {combined:.1} | {whole:.1}");
+    let [to_plain, to_boost, to_mpfi] = [combined / whole, boost / combined, mpfi / combined];
+    format!("{ours} | {peers} | {second:.1} | {to_plain:.2} | {to_boost:.2} | {to_mpfi:.2}")
 }
 
 fn proved(c: &Ranges, op: u8, row: usize) -> range::RangeAnswer {
@@ -78,15 +82,25 @@ fn combine(c: &Ranges, op: u8, lent: &mut [u64]) {
     assert_eq!(answer.number, 0);
 }
 
+fn plain_combine(c: &Ranges, op: u8, lent: &mut [u64]) {
+    let number = plain::column::combine(c.n, c.es, op, &c.left, &c.right, lent);
+    assert_eq!(number, 0);
+}
+
 fn plain_operation(c: &Ranges, op: u8, row: usize) -> range::RangeAnswer {
     plain::range::operate(c.n, c.es, op, c.left[row], c.right[row])
 }
 
-/// Plain Rust answers as the proved code does.
+/// The column calls and plain Rust answer as the proved single calls do.
 fn hold_plain(c: &Ranges, op: u8) {
+    let [mut combined, mut whole] = [vec![0; LENGTH], vec![0; LENGTH]];
+    combine(c, op, &mut combined);
+    plain_combine(c, op, &mut whole);
     for row in 0..LENGTH {
         let (proved, plain) = (proved(c, op, row), plain_operation(c, op, row));
         assert_eq!(proved, plain, "operation {op}, row {row}");
+        let words = [combined[row], whole[row]];
+        assert_eq!(words, [proved.word; 2], "column, operation {op}, row {row}");
     }
 }
 

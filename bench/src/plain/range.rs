@@ -1,8 +1,8 @@
 //! The operations on ranges in plain Rust: words to cells, the ends of the results, and back.
 
-use super::normal::{self, normal_form, Normal};
-use super::operate::Magnitude;
-use super::{chosen, is_format, locate, negated, power, power32};
+use super::code::Coded;
+use super::code::{code_of, is_far, near_sum, near_total, product, quotient, signed_sum, step_of};
+use super::{chosen, is_format, negated, power, power32};
 use jorumrain::raw::range::RangeAnswer;
 
 /// The cells from lo to hi; none where lo is above hi.
@@ -79,7 +79,7 @@ fn no_cells(n: u32) -> Span {
     }
 }
 
-fn joined(n: u32, start: u32, end: u32) -> u64 {
+pub(super) fn joined(n: u32, start: u32, end: u32) -> u64 {
     start as u64 * power(n + 1) + end as u64
 }
 
@@ -104,12 +104,9 @@ fn mirror(n: u32, s: Span) -> Span {
     }
 }
 
-/// The cell of a magnitude with a sign.
-fn cell_of(n: u32, es: u32, negative: bool, x: Magnitude) -> u32 {
-    let (pattern, exact) = locate(n, es, x.g, x.s, x.a);
-    let gap = (1 - pattern % 2) * (1 - (exact & !x.lost) as u32);
-    let cell = power32(n) - 1 + pattern + gap;
-    chosen(negative as u32, cell, top_cell(n) - cell)
+/// The cell of a number above 0 from its step among the posits.
+fn above_zero(n: u32, step: u32) -> u32 {
+    power32(n) - 1 + step
 }
 
 fn add(n: u32, es: u32, x: Span, y: Span) -> u64 {
@@ -150,16 +147,44 @@ fn sum_cell(n: u32, es: u32, p: u32, q: u32) -> u32 {
     }
     let (less, x) = signed_form(n, es, p);
     let (under, y) = signed_form(n, es, q);
-    match normal::sum(es, less, x, under, y) {
+    signed_cell(n, es, signed_sum(es, less, x, under, y))
+}
+
+fn signed_cell(n: u32, es: u32, sum: Option<(bool, Coded)>) -> u32 {
+    match sum {
         None => power32(n) - 1,
-        Some((negative, magnitude)) => cell_of(n, es, negative, magnitude),
+        Some((negative, size)) => {
+            let cell = above_zero(n, step_of(n, es, size));
+            chosen(negative as u32, cell, top_cell(n) - cell)
+        }
     }
 }
 
-fn signed_form(n: u32, es: u32, p: u32) -> (bool, Normal) {
+/// The sum of two posits above 0.
+pub(super) fn total_cell(n: u32, es: u32, p: u32, q: u32) -> u32 {
+    let (x, y) = (code_of(n, es, p), code_of(n, es, q));
+    if is_far(x, y) {
+        return sum_cell(n, es, p, q);
+    }
+    above_zero(n, step_of(n, es, near_total(es, x, y)))
+}
+
+/// The sum of a posit below 0 and one that is not.
+pub(super) fn across_cell(n: u32, es: u32, p: u32, q: u32) -> u32 {
+    if q == 0 {
+        return sum_cell(n, es, p, q);
+    }
+    let (x, y) = (code_of(n, es, power32(n) - p), code_of(n, es, q));
+    if is_far(x, y) {
+        return sum_cell(n, es, p, q);
+    }
+    signed_cell(n, es, near_sum(es, true, x, false, y))
+}
+
+fn signed_form(n: u32, es: u32, p: u32) -> (bool, u64) {
     let negative = power32(n - 1) <= p;
     let size = chosen(negative as u32, p, negated(n, p));
-    (negative, normal_form(n, es, size))
+    (negative, code_of(n, es, size))
 }
 
 fn multiply(n: u32, es: u32, x: Span, y: Span) -> u64 {
@@ -168,6 +193,12 @@ fn multiply(n: u32, es: u32, x: Span, y: Span) -> u64 {
     }
     if has_one_sign(n, x) && has_one_sign(n, y) {
         return word_of(n, one_sign(n, es, x, y, products_above));
+    }
+    if is_mixed(n, x) && has_one_sign(n, y) {
+        return word_of(n, mixed_products(n, es, x, y));
+    }
+    if is_mixed(n, y) && has_one_sign(n, x) {
+        return word_of(n, mixed_products(n, es, y, x));
     }
     let signed = signed_results(n, es, x, y, products_above);
     let zero = zero_if(n, has_zero(n, x) || has_zero(n, y));
@@ -181,8 +212,43 @@ fn divide(n: u32, es: u32, x: Span, y: Span) -> u64 {
     if has_one_sign(n, x) && has_one_sign(n, y) {
         return word_of(n, one_sign(n, es, x, y, quotients_above));
     }
+    if is_mixed(n, x) && has_one_sign(n, y) {
+        return word_of(n, mixed_quotients(n, es, x, y));
+    }
     let signed = signed_results(n, es, x, y, quotients_above);
     word_of(n, hull(signed, zero_if(n, has_zero(n, x))))
+}
+
+fn is_mixed(n: u32, s: Span) -> bool {
+    power32(n) <= s.hi && s.lo < power32(n) - 1
+}
+
+fn mixed_products(n: u32, es: u32, x: Span, y: Span) -> Span {
+    let far = magnitudes(n, y).hi;
+    let below = product_last(n, es, top_cell(n) - x.lo, far);
+    around(n, y, below, product_last(n, es, x.hi, far))
+}
+
+fn mixed_quotients(n: u32, es: u32, x: Span, y: Span) -> Span {
+    let near = magnitudes(n, y).lo;
+    let below = quotient_last(n, es, top_cell(n) - x.lo, near);
+    around(n, y, below, quotient_last(n, es, x.hi, near))
+}
+
+/// From the negative of one cell up to the other, turned round where y is below 0.
+fn around(n: u32, y: Span, below: u32, above: u32) -> Span {
+    let top = top_cell(n);
+    if is_above(n, y) {
+        Span {
+            lo: top - below,
+            hi: above,
+        }
+    } else {
+        Span {
+            lo: top - above,
+            hi: below,
+        }
+    }
 }
 
 /// The results of two parts above 0 that have members.
@@ -322,14 +388,14 @@ fn end_above(n: u32, cell: u32) -> u32 {
     (cell + 2 - power32(n)) / 2
 }
 
-fn product_cell(n: u32, es: u32, p: u32, q: u32) -> u32 {
-    let product = normal::product(es, normal_form(n, es, p), normal_form(n, es, q));
-    cell_of(n, es, false, product)
+pub(super) fn product_cell(n: u32, es: u32, p: u32, q: u32) -> u32 {
+    let product = product(es, code_of(n, es, p), code_of(n, es, q));
+    above_zero(n, step_of(n, es, product))
 }
 
-fn quotient_cell(n: u32, es: u32, p: u32, q: u32) -> u32 {
-    let quotient = normal::quotient(normal_form(n, es, p), normal_form(n, es, q));
-    cell_of(n, es, false, quotient)
+pub(super) fn quotient_cell(n: u32, es: u32, p: u32, q: u32) -> u32 {
+    let quotient = quotient(es, code_of(n, es, p), code_of(n, es, q));
+    above_zero(n, step_of(n, es, quotient))
 }
 
 fn first_from(x: u32, y: u32, cell: u32) -> u32 {

@@ -22,10 +22,9 @@ use Rattle.posit.proofs.KnownWide.{cut-within}
 use Rattle.posit.proofs.Summed.{sign-twice, sign-other, sign-cong, sign-sum, sign-difference}
 use Rattle.code.specs.declared.inner.aligned.Aligned.{Aligned}
 use Rattle.code.specs.Code.{IsCode, codeBits, codeValue}
-use Rattle.code.specs.Coded.{Codes, codeFrom}
+use Rattle.code.specs.Coded.{Codes}
 use Rattle.code.specs.Aligned.{AlignedOf, lostUnit, sizeOf}
 use Rattle.code.proofs.Placed.{Knows, placed, place-fits, placed-codes}
-use Rattle.code.proofs.Known.{known}
 use Rattle.code.proofs.Alignment.{Leads, unitsOf, aligned-leads}
 
 -- ---- two numbers over one power of two
@@ -158,12 +157,6 @@ module _ {x y : ℕ} {a : Aligned} (o : AlignedOf x y a) where
 
   -- ---- the sizes with their signs
   module _ (es : ℕ) where
-    both-known : Knows es (a .scale) (a .upper + a .lower) (a .lost) (codeValue 14 es x +ᶠ codeValue 14 es y)
-    both-known =
-        within-respects
-        (≈-sym (over-both (codeBits 14 es) (unitsOf x) (unitsOf y)))
-        (rw both-units at (sum-known es (aligned-leads x y o)))
-
     same-known : (b : Bool) → Knows es (a .scale) (a .upper + a .lower) (a .lost) (withSignᶠ b (withSignᶠ b (codeValue 14 es x) +ᶠ withSignᶠ b (codeValue 14 es y)))
     same-known b = within-respects (≈-sym (alike-over (codeBits 14 es) (unitsOf x) (unitsOf y) b)) (rw both-units at (sum-known es (aligned-leads x y o)))
 
@@ -197,15 +190,6 @@ module _ {x y : ℕ} {a : Aligned} (o : AlignedOf x y a) where
 
     -- ---- what is known of it
     module _ (small : es ≤ 2) (isX : IsCode es x) (isY : IsCode es y) where
-      pub scale-less : a .scale < 2 ^ 10
-      scale-less = omega (arith, scale-from isX isY, pow-mono small)
-
-      pub total-codes : Codes es (codeValue 14 es x +ᶠ codeValue 14 es y) (record { code = codeFrom (a .scale) (a .upper + a .lower); lost = a .lost })
-      total-codes =
-          let k = both-known in
-          let s = scale-from isX isY in
-          known small (omega (arith, s)) (omega (arith, s, pow-pos es)) size-some (size-few false) (k .at-least) (k .less) (k .whole-of-it) (k .more-than-it)
-
       module _ (less under : Bool) (g h : ℕ) (is : g ≡ sizeOf (not (Bool·beq less under)) a) (highest : HighestBit g h) where
         few : g < 2 ^ 30
         few = rw is (size-few (not (Bool·beq less under)))

@@ -29,7 +29,7 @@ use tally::Outcome;
 type Group = (&'static str, fn() -> Outcome);
 
 /// The groups in the order of their lines.
-const GROUPS: [Group; 22] = [
+const GROUPS: [Group; 23] = [
     ("bench figures and further cases", figures::every),
     ("published vectors", figures::vectors),
     ("patterns", patterns::every),
@@ -53,6 +53,7 @@ const GROUPS: [Group; 22] = [
     ("readings", readings::coming_in),
     ("ranges going out", readings::going_out),
     ("columns", sheets::columns),
+    ("columns of one kind", sheets::columns_of_one_kind),
     ("sheets", sheets::sheets),
     ("sheet files", files::every),
 ];

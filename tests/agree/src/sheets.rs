@@ -10,6 +10,11 @@ use second::{column, sheet};
 /// Columns and sheets of each of the 42 formats: a hundred thousand of each in all.
 const PER_FORMAT: u32 = 2_400;
 
+/// Formats up to this width are tried with every pair of words, others with so many columns, the first of the greatest length.
+const SMALL_WIDTH: u32 = 4;
+const ROUNDS: u32 = 120;
+const MOST: usize = 4096;
+
 /// A word that no call writes by itself.
 const FILL: u64 = 0xdead_beef_0bad_f00d;
 
@@ -61,6 +66,82 @@ fn combine(
     let expected = (other.number, other.place, other.value);
     let call = format!("{:?}", (n, es, op, left.len(), right.len(), row, room));
     hold(tally, "combine", &call, got, expected, ours == theirs)
+}
+
+/// Columns of ranges above 0, or across it on the left: every pair of such words of the smallest formats, and random ones of all formats.
+pub fn columns_of_one_kind() -> Outcome {
+    let mut tally = Tally::default();
+    let mut random = Random::new();
+    for (n, es) in formats::all() {
+        if n <= SMALL_WIDTH {
+            let kinds =
+                |kind: fn(u32, u64) -> bool| (0..1 << (2 * n + 2)).filter(move |w| kind(n, *w));
+            let pairs = kinds(above_or_across).flat_map(|a| kinds(above).map(move |b| (a, b)));
+            let (left, right): (Vec<u64>, Vec<u64>) = pairs.unzip();
+            for (left, right) in left.chunks(MOST).zip(right.chunks(MOST)) {
+                combine_each(&mut tally, (n, es), left, right)?;
+            }
+        }
+        for round in 0..ROUNDS {
+            let length = if round == 0 {
+                MOST
+            } else {
+                1 + random.below(40) as usize
+            };
+            let left = words_of(&mut random, n, length, above_or_across);
+            let mut right = words_of(&mut random, n, length, above);
+            if round % 4 == 1 {
+                let at = random.below(length as u64) as usize;
+                right[at] = words(&mut random, n, 1)[0];
+            }
+            combine_each(&mut tally, (n, es), &left, &right)?;
+        }
+    }
+    Ok(tally)
+}
+
+/// So many random words of one kind.
+fn words_of(random: &mut Random, n: u32, length: usize, kind: fn(u32, u64) -> bool) -> Vec<u64> {
+    let mut found = Vec::new();
+    while found.len() < length {
+        found.extend(words(random, n, 64).into_iter().filter(|w| kind(n, *w)));
+    }
+    found.truncate(length);
+    found
+}
+
+/// Every operation on two columns of equal length, with room for the answers.
+fn combine_each(
+    tally: &mut Tally,
+    (n, es): (u32, u32),
+    left: &[u64],
+    right: &[u64],
+) -> Result<(), Difference> {
+    for op in 0..4 {
+        let (mut ours, mut theirs) = (vec![FILL; left.len() + 2], vec![FILL; left.len() + 2]);
+        let answer = proved::combine(n, es, op, left, right, 1, &mut ours);
+        let other = column::combine(n, es, op.into(), left, right, 1, &mut theirs);
+        let got = (answer.number, answer.place.into(), answer.count.into());
+        let expected = (other.number, other.place, other.value);
+        let call = format!("{:?}", (n, es, op, left, right));
+        hold(tally, "combine", &call, got, expected, ours == theirs)?;
+    }
+    Ok(())
+}
+
+/// A range with a member whose start is not below 0 and not a closed 0, and whose end is a posit above 0.
+fn above(n: u32, w: u64) -> bool {
+    let (start, end) = (w >> (n + 1), w % (2 << n));
+    let (low, high, nar) = (start / 2, end / 2, 1 << (n - 1));
+    let closed = start % 2 == 0 && end % 2 == 0;
+    start != 0 && 0 < high && high < nar && (low < high || low == high && closed)
+}
+
+/// The same, or a range from a posit below 0 to one above 0.
+fn above_or_across(n: u32, w: u64) -> bool {
+    let (low, high, nar) = (w >> (n + 2), w % (2 << n) / 2, 1 << (n - 1));
+    let across = nar < low && low < 2 * nar && 0 < high && high < nar;
+    above(n, w) || across
 }
 
 pub fn sheets() -> Outcome {
