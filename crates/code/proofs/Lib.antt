@@ -10,3 +10,4 @@ pub mod Doubles
 pub mod DoubleCode
 pub mod Cutting
 pub mod Stepping
+pub mod Nearness

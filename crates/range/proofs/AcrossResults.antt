@@ -38,7 +38,7 @@ use Rattle.range.proofs.SignedCells.{product-answer, quotient-answer}
 use Rattle.range.proofs.ReachedCells.{start-limited, start-unlimited, end-limited, last-limited, last-no-right}
 use Rattle.range.proofs.Mixed.{mixed-products, mixed-quotients}
 use Rattle.range.proofs.PlainCells.{PlainTiles, firstOf, lastOf, plain-tiles, plain-cells, real-of-plain, plain-one-sign, plain-above, cells-ordered, last-there, start-posit-is, end-posit-is, start-mark-is, end-mark-is, start-posit-fits, end-posit-fits, plain-start, plain-end}
-use Rattle.range.proofs.PlainResults.{bothClosed, closed-small, lastFrom, end-tile-above, result-cell-above}
+use Rattle.range.proofs.PlainResults.{bothClosed, closed-small, lastFrom, end-tile-above, result-cell-above, last-moved}
 use Rattle.range.proofs.AcrossCells.{AcrossTiles, belowOf, across-tiles, across-cells, across-mixed, across-ordered, real-of-across, negated-end, upper, lower, lower-last, below-posit-is, below-mark-is}
 
 -- ---- the last cell at two ends
@@ -59,11 +59,6 @@ last-from n es wide divide f g k e = last-at n wide k (result-cell-above n es wi
 
 pub turned-tile-fits : (n t : ℕ) {x : ℕ} → x ≡ turnedTile n t → x < tiles n
 turned-tile-fits n t e = omega (arith, e, negated-fits n (t / 2), power-wider n)
-
-last-moved-down : (k c : ℕ) → k ≤ 1 → chosenBy k (2 * (c / 2)) c ≡ c - c % 2 * (1 - k)
-last-moved-down zero c h = omega arith
-last-moved-down (suc zero) c h = omega arith
-last-moved-down (suc (suc k)) c h = absurd (omega arith)
 
 pub moved-up-small : (s t c : ℕ) → c % 2 * (1 - bothClosed s t) ≤ c % 2
 moved-up-small s t c = by (bothClosed s t) (closed-small s t)
@@ -234,7 +229,7 @@ module _ {n es a b s t u v : ℕ} (o : AcrossEnds n es a b s t u v) where
 
     sum-last : lastFrom u v hi ≡ sumEnd n es (lastOf n u) (lastOf n v)
     sum-last =
-        last-moved-down (bothClosed u v) hi (closed-small u v)
+        sym (last-moved u v hi)
         ∙ ap₂ (λ (p q : ℕ). hi - hi % 2 * (1 - p * q)) (sym (end-mark-is n wide (upper n wide left-tiles))) (sym (end-mark-is n wide (plain-end right-tiles)))
         ∙ end-found n es wide (lastOf n u) (lastOf n v) (last-there n wide (upper n wide left-tiles)) (last-there n wide (plain-end right-tiles))
         (end-posit-is n wide (upper n wide left-tiles)) (end-posit-is n wide (plain-end right-tiles)) f

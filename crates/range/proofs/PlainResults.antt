@@ -271,7 +271,7 @@ first-moved s t c = by (closed-by s t)
     by (inl e) = rw e (omega arith)
     by (inr e) = rw e (omega arith)
 
-last-moved : (s t c : ℕ) → c - c % 2 * (1 - bothClosed s t) ≡ lastFrom s t c
+pub last-moved : (s t c : ℕ) → c - c % 2 * (1 - bothClosed s t) ≡ lastFrom s t c
 last-moved s t c = by (closed-by s t)
   where
     by : (bothClosed s t ≡ 0) ⊎ (bothClosed s t ≡ 1) → c - c % 2 * (1 - bothClosed s t) ≡ lastFrom s t c

@@ -1,11 +1,10 @@
 // Codes with signs as doubles: every code is one exactly, and so is the sum of two whose scales are near.
 ghost use mathlib.Core.Path.{_≡_};
-ghost use mathlib.Core.Bool.{false};
 ghost use Prim.Native.Nat.{_+_, _*_, _^_, _≤_, _<_};
 ghost use lib.Ieee.Exact.{HasValue};
 ghost use Rattle.code.specs.Code.{IsCode, codeBits, scaleIn, digitsIn};
 ghost use Rattle.code.specs.Double as Spec;
-ghost use Rattle.code.specs.Double.{codedOf, Near};
+ghost use Rattle.code.specs.Double.{codedOf, isFar};
 use super::coded::Coded;
 use posit::inner::power::power;
 
@@ -25,12 +24,12 @@ const TO_DOUBLE: u64 = 0x40_0000_0000;
 // Moved down by so much, a double has 29 digits behind the first.
 const TO_CODED: u64 = 0x80_0000;
 
-// Codes less than this apart have scales at most 36 apart.
+// Codes less than this apart have scales at most 36 apart, so that a double holds their sum.
 const FAR: u64 = 0x9_0000;
 
 pub fn is_far(x: u64, y: u64) -> bool
     requires { ⌜ (x < 2 ^ 63) × (y < 2 ^ 63) ⌝ }
-    ensures { λ r. ⌜ (r ≡ false → Near x y) ⌝ }
+    ensures { λ r. ⌜ r ≡ isFar x y ⌝ }
 {
     y + FAR <= x || x + FAR <= y
 }

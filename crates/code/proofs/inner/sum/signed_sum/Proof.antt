@@ -1,6 +1,7 @@
 -- `code::inner::sum::signed_sum` meets its contract: codes that are not far apart are near.
 use borrow.Author.Needs.{needs}
 use Rattle.code.proofs.DoubleCode.{codes-small}
+use Rattle.code.proofs.Nearness.{near-of}
 use Rattle.code.proofs.inner.sum.signed_sum.Statement.{statement}
 use Rattle.code.proofs.inner.sum.signed_sum.Tie as tie
 
@@ -16,7 +17,7 @@ returns c = search needs
 near-sum-requires : tie.Need-near-sum-requires
 near-sum-requires c κs =
     let at = c .before .before in
-    (at .pre .0, at .pre .1, at .pre .2, c .before .is-far .ensures (c .if1 .left))
+    (at .pre .0, at .pre .1, at .pre .2, near-of _ _ (c .before .is-far .ensures) (c .if1 .left))
 
 returns-2 : tie.Need-returns-2
 returns-2 c = search needs

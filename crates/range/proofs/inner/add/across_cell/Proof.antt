@@ -3,6 +3,7 @@ use mathlib.Core.Path.{_∙_}
 use native.Mathlib.Omega.{arith}
 use lib.Pow.{pow-pos}
 use Rattle.code.proofs.DoubleCode.{codes-small}
+use Rattle.code.proofs.Nearness.{near-of}
 use Rattle.range.proofs.SumCells.{below-finite, above-finite, size-below, across-signed, above-signed, zero-right, nothing-cell, something-known, something-fits, something-small, something-cell, signed-sum}
 use borrow.Author.Needs.{needs}
 use Rattle.range.proofs.inner.add.across_cell.Statement.{statement}
@@ -36,7 +37,7 @@ returns-2 : tie.Need-returns-2
 returns-2 c = search needs
 
 near-sum-requires : tie.Need-near-sum-requires
-near-sum-requires c κs = (c .before .before .before .before .before .before .pre .0 .exponent-fits, c .before .before .before .code-of .ensures .code, c .before .before .code-of2 .ensures .code, c .before .is-far .ensures (c .if2 .left))
+near-sum-requires c κs = (c .before .before .before .before .before .before .pre .0 .exponent-fits, c .before .before .before .code-of .ensures .code, c .before .before .code-of2 .ensures .code, near-of _ _ (c .before .is-far .ensures) (c .if2 .left))
 
 enum-told : tie.Need-enum-told
 enum-told c = search needs

@@ -1,6 +1,7 @@
 -- `range::inner::add::total_cell` meets its contract: the codes say what the posits are, so equal sums have one cell.
 use mathlib.Core.Path.{_∙_}
 use Rattle.code.proofs.DoubleCode.{codes-small}
+use Rattle.code.proofs.Nearness.{near-of}
 use Rattle.range.proofs.CellFrom.{cell-same}
 use Rattle.range.proofs.ResultCell.{same-total}
 use Rattle.range.proofs.SumCells.{below-finite}
@@ -24,7 +25,7 @@ returns : tie.Need-returns
 returns c = search needs
 
 near-cell-requires : tie.Need-near-cell-requires
-near-cell-requires c κs = (c .before .before .before .before .pre .0, c .before .before .before .code-of .ensures .code, c .before .before .code-of2 .ensures .code, c .before .is-far .ensures (c .if1 .left))
+near-cell-requires c κs = (c .before .before .before .before .pre .0, c .before .before .before .code-of .ensures .code, c .before .before .code-of2 .ensures .code, near-of _ _ (c .before .is-far .ensures) (c .if1 .left))
 
 returns-2 : tie.Need-returns-2
 returns-2 c = c .near-cell .ensures ∙ cell-same _ _ (c .before .before .before .before .before .pre .0 .wide-enough) (same-total (c .before .before .before .before .code-of .ensures) (c .before .before .before .code-of2 .ensures))

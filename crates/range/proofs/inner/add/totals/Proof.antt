@@ -1,6 +1,7 @@
 -- `range::inner::add::totals` meets its contract: the codes say what the posits are, so equal sums have one cell.
 use mathlib.Core.Path.{_∙_}
 use Rattle.code.proofs.DoubleCode.{codes-small}
+use Rattle.code.proofs.Nearness.{near-of}
 use Rattle.range.proofs.CellFrom.{cell-same}
 use Rattle.range.proofs.ResultCell.{same-total}
 use Rattle.range.proofs.SumCells.{below-finite}
@@ -39,10 +40,10 @@ returns-2 : tie.Need-returns-2
 returns-2 c = search needs
 
 near-cell-requires : tie.Need-near-cell-requires
-near-cell-requires c κs = (c .before .before .before .before .before .before .before .before .pre .0 .0, c .before .before .before .before .before .before .before .code-of .ensures .code, c .before .before .before .before .before .before .code-of2 .ensures .code, c .before .before .before .is-far .ensures (c .before .before .if1 .left))
+near-cell-requires c κs = (c .before .before .before .before .before .before .before .before .pre .0 .0, c .before .before .before .before .before .before .before .code-of .ensures .code, c .before .before .before .before .before .before .code-of2 .ensures .code, near-of _ _ (c .before .before .before .is-far .ensures) (c .before .before .if1 .left))
 
 near-cell-requires-2 : tie.Need-near-cell-requires-2
-near-cell-requires-2 c κs = (c .before .before .before .before .before .before .before .before .before .pre .0 .0, c .before .before .before .before .before .before .code-of3 .ensures .code, c .before .before .before .before .before .code-of4 .ensures .code, c .before .before .is-far2 .ensures (c .before .if2 .left))
+near-cell-requires-2 c κs = (c .before .before .before .before .before .before .before .before .before .pre .0 .0, c .before .before .before .before .before .before .code-of3 .ensures .code, c .before .before .before .before .before .code-of4 .ensures .code, near-of _ _ (c .before .before .is-far2 .ensures) (c .before .if2 .left))
 
 returns-3 : tie.Need-returns-3
 returns-3 c =
