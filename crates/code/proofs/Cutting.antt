@@ -14,50 +14,84 @@ use Rattle.posit.specs.Format.{Format}
 use Rattle.posit.specs.Parts.{chosenBy}
 use Rattle.code.specs.Coded.{Fits}
 
--- ---- a code's regime, counted from -64, and its tail: the exponent and the digits behind the first
+powers : (i j : ℕ) {k : ℕ} → i + j ≡ k → 2 ^ k ≡ 2 ^ i * 2 ^ j
+powers i j e = ap (λ (x : ℕ). 2 ^ x) (sym e) ∙ pow-add 2 i j
+
+-- ---- a code of forty digits, counted from 64 regimes below 1: its regime is at least 16 and less than 96
+pub record Counted (es c : ℕ) : Type 0 where
+  pub at-least : 16 * 2 ^ es * 2 ^ 40 ≤ c
+  pub less : c < 96 * 2 ^ es * 2 ^ 40
+
+-- its regime, and its tail: the exponent and the digits behind the first
 abbrev pub regimeIn : ℕ → ℕ → ℕ
-regimeIn es c = c / 2 ^ (29 + es)
+regimeIn es c = c / 2 ^ (40 + es)
 
 abbrev pub tailIn : ℕ → ℕ → ℕ
-tailIn es c = c % 2 ^ (29 + es)
+tailIn es c = c % 2 ^ (40 + es)
 
 -- moved up, so that the regime stands first in a word
 abbrev pub wordOf : ℕ → ℕ → ℕ
-wordOf es c = c * 2 ^ (28 - es)
+wordOf es c = c * 2 ^ (17 - es)
 
-powers : (i j : ℕ) {k : ℕ} → i + j ≡ k → 2 ^ k ≡ 2 ^ i * 2 ^ j
-powers i j e = ap (λ (x : ℕ). 2 ^ x) (sym e) ∙ pow-add 2 i j
+-- ---- the bits of a double, counted from 64 regimes below 1 and without the last twelve digits, which are 0
+abbrev pub lowestIn : ℕ → ℕ
+lowestIn es = (1023 - 64 * 2 ^ es) * 2 ^ 52
+
+abbrev pub codeIn : ℕ → ℕ → ℕ
+codeIn es b = (b - lowestIn es) / 2 ^ 12
+
+abbrev pub wordIn : ℕ → ℕ → ℕ
+wordIn es b = (b - lowestIn es) * 2 ^ (5 - es)
+
+pub few-exponents : {es : ℕ} → es ≤ 2 → 2 ^ es ≤ 4
+few-exponents {es} small = pow-mono {i = es} {j = 2} small
+
+module _ {es b : ℕ} (small : es ≤ 2) (f : Fits es b) where
+  pub lowest-below : lowestIn es ≤ b
+  lowest-below = omega (arith, few-exponents small, f .at-least)
+
+  pub code-counted : Counted es (codeIn es b)
+  code-counted = record { at-least = omega (arith, few-exponents small, f .at-least); less = omega (arith, few-exponents small, f .at-least, f .less) }
+
+  pub code-whole : codeIn es b * 2 ^ 12 + lowestIn es ≡ b
+  code-whole = omega (arith, few-exponents small, f .at-least, f .few)
+
+  pub word-moved : wordIn es b ≡ wordOf es (codeIn es b)
+  word-moved = at (codeIn es b) (2 ^ (5 - es)) (omega (arith, code-whole)) (powers 12 (5 - es) {k = 17 - es} (omega arith))
+    where
+      at : (e D : ℕ) {d W : ℕ} → d ≡ e * 2 ^ 12 → W ≡ 2 ^ 12 * D → d * D ≡ e * W
+      at e D i j = omega (arith, ap (λ (x : ℕ). x * D) i, ap (λ (x : ℕ). e * x) j)
 
 parts-moved : (q M r D W : ℕ) {c : ℕ} → q * M + r ≡ c → W ≡ M * D → c * D ≡ q * W + r * D
 parts-moved q M r D W e f = omega (arith, ap (λ (x : ℕ). x * D) e, ap (λ (x : ℕ). q * x) f)
 
-module _ {es c : ℕ} (small : es ≤ 2) (f : Fits es c) where
+module _ {es c : ℕ} (small : es ≤ 2) (f : Counted es c) where
   abbrev k : ℕ
   k = regimeIn es c
 
-  unit-is : 2 ^ (29 + es) ≡ 2 ^ 29 * 2 ^ es
-  unit-is = pow-add 2 29 es
+  unit-is : 2 ^ (40 + es) ≡ 2 ^ 40 * 2 ^ es
+  unit-is = pow-add 2 40 es
 
   pub regime-at-least : 16 ≤ k
-  regime-at-least = le-div-iff-mul-le {k = 2 ^ (29 + es)} {x = 16} {y = c} (pow-pos (29 + es)) .1 (omega (arith, unit-is, f .at-least))
+  regime-at-least = le-div-iff-mul-le {k = 2 ^ (40 + es)} {x = 16} {y = c} (pow-pos (40 + es)) .1 (omega (arith, unit-is, f .at-least))
 
   pub regime-less : k < 96
-  regime-less = div-lt-iff-lt-mul {k = 2 ^ (29 + es)} {x = c} {y = 96} (pow-pos (29 + es)) .1 (omega (arith, unit-is, f .less))
+  regime-less = div-lt-iff-lt-mul {k = 2 ^ (40 + es)} {x = c} {y = 96} (pow-pos (40 + es)) .1 (omega (arith, unit-is, f .less))
 
-  tail-moved : tailIn es c * 2 ^ (28 - es) < 2 ^ 57
-  tail-moved = let e : 29 + es + (28 - es) ≡ 57 = omega arith in rw e at (shl-lt (29 + es) (28 - es) (mod-lt c (pow-pos (29 + es))))
+  tail-moved : tailIn es c * 2 ^ (17 - es) < 2 ^ 57
+  tail-moved = let e : 40 + es + (17 - es) ≡ 57 = omega arith in rw e at (shl-lt (40 + es) (17 - es) (mod-lt c (pow-pos (40 + es))))
 
-  word-is : wordOf es c ≡ k * 2 ^ 57 + tailIn es c * 2 ^ (28 - es)
+  word-is : wordOf es c ≡ k * 2 ^ 57 + tailIn es c * 2 ^ (17 - es)
   word-is =
-      parts-moved k (2 ^ (29 + es)) (tailIn es c) (2 ^ (28 - es)) (2 ^ 57) (split c (29 + es)) (powers (29 + es) (28 - es) {k = 57} (omega arith))
+      parts-moved k (2 ^ (40 + es)) (tailIn es c) (2 ^ (17 - es)) (2 ^ 57) (split c (40 + es)) (powers (40 + es) (17 - es) {k = 57} (omega arith))
 
-  pub word-fits : wordOf es c < 2 ^ 64
+  word-fits : wordOf es c < 2 ^ 64
   word-fits = omega (arith, word-is, tail-moved, regime-less)
 
   pub word-regime : wordOf es c / 2 ^ 57 ≡ k
   word-regime = omega (arith, word-is, tail-moved)
 
-  pub word-tail : wordOf es c % 2 ^ 57 ≡ tailIn es c * 2 ^ (28 - es)
+  pub word-tail : wordOf es c % 2 ^ 57 ≡ tailIn es c * 2 ^ (17 - es)
   word-tail = omega (arith, word-is, tail-moved)
 
 -- ---- the pattern, whose first bit is the one behind the sign: where the regime is 0 or more, all bits are turned over, and the pattern's again
@@ -102,16 +136,25 @@ module _ (word : ℕ) where
       (turned-again (2 ^ (127 - word / 2 ^ 57)) (word / 2 ^ 57 - 63) (word % 2 ^ 57 * 64 + 63)
       (sym (powers (127 - word / 2 ^ 57) (word / 2 ^ 57 - 63) {k = 64} (omega arith))) (omega arith))
 
--- either way the regime is above 0 and below 64
-pub turned-small : {es c : ℕ} → es ≤ 2 → Fits es c → let z = turnedBy (wordOf es c / 2 ^ 63) (wordOf es c) in (1 ≤ z / 2 ^ 57) × (z / 2 ^ 57 < 64)
-turned-small {es} {c} small f =
-    by (wordOf es c) (wordOf es c / 2 ^ 63) refl (rw (word-regime small f) (regime-at-least small f)) (rw (word-regime small f) (regime-less small f))
-  where
-    by :
-        (word mark : ℕ) → word / 2 ^ 63 ≡ mark → 16 ≤ word / 2 ^ 57 → word / 2 ^ 57 < 96
-        → (1 ≤ turnedBy mark word / 2 ^ 57) × (turnedBy mark word / 2 ^ 57 < 64)
-    by word zero e l u = (omega arith, omega arith)
-    by word (suc mark) e l u = (omega arith, omega arith)
+-- ---- the word of a double's bits: either way its regime is above 0 and below 64
+module _ {es b : ℕ} (small : es ≤ 2) (f : Fits es b) where
+  c : Counted es (codeIn es b)
+  c = code-counted small f
+
+  pub word-small : wordIn es b < 2 ^ 64
+  word-small = rw (word-moved small f) (word-fits small c)
+
+  pub turned-small : let z = turnedBy (wordIn es b / 2 ^ 63) (wordIn es b) in (1 ≤ z / 2 ^ 57) × (z / 2 ^ 57 < 64)
+  turned-small =
+      rw (word-moved small f)
+      (by (wordOf es (codeIn es b)) (wordOf es (codeIn es b) / 2 ^ 63) refl (rw (word-regime small c) (regime-at-least small c))
+      (rw (word-regime small c) (regime-less small c)))
+    where
+      by :
+          (word mark : ℕ) → word / 2 ^ 63 ≡ mark → 16 ≤ word / 2 ^ 57 → word / 2 ^ 57 < 96
+          → (1 ≤ turnedBy mark word / 2 ^ 57) × (turnedBy mark word / 2 ^ 57 < 64)
+      by word zero e l u = (omega arith, omega arith)
+      by word (suc mark) e l u = (omega arith, omega arith)
 
 -- ---- a pattern cut by a unit: what it keeps, and whether more than 63 is cut off
 pub record Cuts (pattern unit kept : ℕ) (exact : Bool) : Type 0 where
@@ -151,7 +194,7 @@ kept-small {n} f l =
     let width : n - 1 + (65 - n) ≡ 64 = omega (arith, f .wide-enough, f .not-too-wide) in
     lt-of-lt-of-le (shr-lt (n - 1) (65 - n) (rw width l)) (pow-mono {i = n - 1} {j = 15} (omega (arith, f .not-too-wide)))
 
-module _ {n es c : ℕ} (f : Format n es) (i : Fits es c) where
+module _ {n es c : ℕ} (f : Format n es) (i : Counted es c) where
   abbrev regime : ℕ
   regime = regimeIn es c
 
@@ -161,11 +204,11 @@ module _ {n es c : ℕ} (f : Format n es) (i : Fits es c) where
   abbrev unit : ℕ
   unit = 2 ^ (65 - n)
 
-  -- the tail stands from place 34 - es on
-  tail-parts : (x j : ℕ) → x + j ≡ 34 - es → wordOf es c % 2 ^ 57 * 64 ≡ tail * 2 ^ x * 2 ^ j
+  -- the tail stands from place 23 - es on
+  tail-parts : (x j : ℕ) → x + j ≡ 23 - es → wordOf es c % 2 ^ 57 * 64 ≡ tail * 2 ^ x * 2 ^ j
   tail-parts x j e =
-      at (2 ^ (28 - es)) (2 ^ x) (2 ^ j) (word-tail (f .exponent-fits) i)
-      (sym (powers (28 - es) 6 {k = 34 - es} (omega (arith, f .exponent-fits))) ∙ powers x j e)
+      at (2 ^ (17 - es)) (2 ^ x) (2 ^ j) (word-tail (f .exponent-fits) i)
+      (sym (powers (17 - es) 6 {k = 23 - es} (omega (arith, f .exponent-fits))) ∙ powers x j e)
     where
       at : (D X J : ℕ) {t : ℕ} → t ≡ tail * D → D * 64 ≡ X * J → t * 64 ≡ tail * X * J
       at D X J e f = omega (arith, ap (λ (k : ℕ). k * 64) e, ap (λ (k : ℕ). tail * k) f)
@@ -185,12 +228,12 @@ module _ {n es c : ℕ} (f : Format n es) (i : Fits es c) where
   -- the run of zeros leaves w bits for the tail
   pub zeros-cut :
       (w : ℕ) → w + 66 ≡ regime + n → regime < 64
-      → Cuts (patternOf (wordOf es c)) unit (2 ^ w + tail / 2 ^ (29 + es - w)) (eqb (tail % 2 ^ (29 + es - w)) 0)
+      → Cuts (patternOf (wordOf es c)) unit (2 ^ w + tail / 2 ^ (40 + es - w)) (eqb (tail % 2 ^ (40 + es - w)) 0)
   zeros-cut w e l =
       let wide : 3 ≤ n = f .wide-enough in
       let narrow : n ≤ 16 = f .not-too-wide in
       let small : es ≤ 2 = f .exponent-fits in
-      let x = regime - 30 - es in
+      let x = regime - 41 - es in
       let run : 2 ^ 63 ≡ 2 ^ w * unit * 2 ^ (64 - regime) =
       powers (w + (65 - n)) (64 - regime) {k = 63} (omega arith) ∙ ap (λ (k : ℕ). k * 2 ^ (64 - regime)) (pow-add 2 w (65 - n))
       in
@@ -198,17 +241,17 @@ module _ {n es c : ℕ} (f : Format n es) (i : Fits es c) where
       ap₂ (λ (a b : ℕ). a + b) run (tail-parts x (64 - regime) (omega arith)) ∙ omega arith
       in
       of-pattern (zeros-whole l ∙ ap (λ (k : ℕ). k / 2 ^ (64 - regime)) word-is ∙ mul-div-cancel (2 ^ w * unit + (tail * 2 ^ x + 0)) (pow-pos (64 - regime)))
-      (digits-cut (2 ^ w) tail x (29 + es - w) (65 - n) 0 (omega arith) (omega arith) (omega arith))
+      (digits-cut (2 ^ w) tail x (40 + es - w) (65 - n) 0 (omega arith) (omega arith) (omega arith))
 
   -- a run of ones with room for its end, and the longest
   behind-ones :
-      (head d : ℕ) → 64 ≤ regime → regime ≤ n + 62 → head * unit ≡ 2 ^ 64 - 2 ^ (127 - regime) → 97 + d ≡ 65 - n + es + regime
+      (head d : ℕ) → 64 ≤ regime → regime ≤ n + 62 → head * unit ≡ 2 ^ 64 - 2 ^ (127 - regime) → 86 + d ≡ 65 - n + es + regime
       → Cuts (patternOf (wordOf es c)) unit (head + tail / 2 ^ d) (eqb (tail % 2 ^ d) 0)
   behind-ones head d l u e width =
       let wide : 3 ≤ n = f .wide-enough in
       let narrow : n ≤ 16 = f .not-too-wide in
       let small : es ≤ 2 = f .exponent-fits in
-      let x = 97 - es - regime in
+      let x = 86 - es - regime in
       let j = regime - 63 in
       let digits : (wordOf es c % 2 ^ 57 * 64 + 63) / 2 ^ j ≡ tail * 2 ^ x + 63 / 2 ^ j =
       ap (λ (k : ℕ). (k + 63) / 2 ^ j) (tail-parts x j (omega arith)) ∙ ap (λ (k : ℕ). k / 2 ^ j) {y = 63 + tail * 2 ^ x * 2 ^ j} (omega arith)
@@ -225,11 +268,11 @@ module _ {n es c : ℕ} (f : Format n es) (i : Fits es c) where
 
   pub ones-cut :
       (w : ℕ) → w + regime ≡ n + 61 → 64 ≤ regime
-      → Cuts (patternOf (wordOf es c)) unit (2 ^ (n - 1) - 2 * 2 ^ w + tail / 2 ^ (29 + es - w)) (eqb (tail % 2 ^ (29 + es - w)) 0)
+      → Cuts (patternOf (wordOf es c)) unit (2 ^ (n - 1) - 2 * 2 ^ w + tail / 2 ^ (40 + es - w)) (eqb (tail % 2 ^ (40 + es - w)) 0)
   ones-cut w e l =
       let wide : 3 ≤ n = f .wide-enough in
       let narrow : n ≤ 16 = f .not-too-wide in
-      behind-ones (2 ^ (n - 1) - 2 * 2 ^ w) (29 + es - w) l (omega arith)
+      behind-ones (2 ^ (n - 1) - 2 * 2 ^ w) (40 + es - w) l (omega arith)
       (head-less (2 * 2 ^ w) (2 ^ (127 - regime)) (sym (powers (1 + w) (65 - n) {k = 127 - regime} (omega arith) ∙ ap (λ (k : ℕ). k * unit) (pow-add 2 1 w))))
       (omega arith)
 
@@ -237,10 +280,10 @@ module _ {n es c : ℕ} (f : Format n es) (i : Fits es c) where
   last-cut e =
       let wide : 3 ≤ n = f .wide-enough in
       let narrow : n ≤ 16 = f .not-too-wide in
-      let fits : tail < 2 ^ (30 + es) = lt-of-lt-of-le (mod-lt c (pow-pos (29 + es))) (pow-mono {i = 29 + es} {j = 30 + es} (omega arith)) in
-      let none : 2 ^ (n - 1) - 1 + tail / 2 ^ (30 + es) ≡ 2 ^ (n - 1) - 1 = omega (arith, div-eq-of-lt fits) in
+      let fits : tail < 2 ^ (41 + es) = lt-of-lt-of-le (mod-lt c (pow-pos (40 + es))) (pow-mono {i = 40 + es} {j = 41 + es} (omega arith)) in
+      let none : 2 ^ (n - 1) - 1 + tail / 2 ^ (41 + es) ≡ 2 ^ (n - 1) - 1 = omega (arith, div-eq-of-lt fits) in
       rw (none, mod-eq-of-lt fits) at
-      (behind-ones (2 ^ (n - 1) - 1) (30 + es) (omega arith) (omega arith)
+      (behind-ones (2 ^ (n - 1) - 1) (41 + es) (omega arith) (omega arith)
       (head-less 1 (2 ^ (127 - regime)) (one-mul unit ∙ ap (λ (k : ℕ). 2 ^ k) {x = 65 - n} {y = 127 - regime} (omega arith)))
       (omega arith))
 

@@ -1,52 +1,68 @@
--- What is known of a number to 29 or 30 digits is known by its code: doubled, 29 digits are 30 with the last one 0, and of 30 the first counts as a scale.
-use mathlib.Core.Path.{_≡_, sym, ap, _∙_}
-use mathlib.Core.Bool.{Bool, true, false}
+-- A code that is the number itself tells it: cut to 24 digits it has the same scale, and the 28 digits cut off make up the rest.
+use mathlib.Core.Path.{_≡_}
+use mathlib.Core.Bool.{Bool}
 use Prim.Native.Nat.{ℕ, _+_, _-_, _*_, _^_, _≤_, _<_}
+use native.Mathlib.Nat.{mul-le-mul-right, mul-lt-mul-of-pos-right, lt-of-le-of-lt}
 use native.Mathlib.Omega.{arith}
-use native.Mathlib.Decide.{decLe}
-use lib.Pow.{pow-add, pow-pos}
-use Rattle.exact.specs.Fraction.{Fraction, _≈_, _≤ᶠ_, _<ᶠ_}
-use Rattle.exact.proofs.Order.{≈-sym, ≈-trans, ≈-≤ᶠ, ≈-<ᶠ, <ᶠ-≈}
-use Rattle.exact.proofs.OverPower.{overPower-pos-≈}
+use lib.IntN.{pos}
+use lib.Pow.{pow-add, pow-pos, shl-lt}
+use lib.Ieee.{Float}
+use Rattle.exact.specs.Fraction.{Fraction, _≈_, _≤ᶠ_, _<ᶠ_, overPower}
+use Rattle.exact.proofs.Order.{≈-sym, ≈-≤ᶠ, ≤ᶠ-≈, ≈-<ᶠ, <ᶠ-≈}
+use Rattle.exact.proofs.OverPower.{overPower-pos-≈, overPower-≤ᶠ, overPower-<ᶠ}
+use Rattle.exact.proofs.WholeOrder.{pos-≤ℤ, pos-<ℤ}
+use Rattle.exact.proofs.Powers.{pow-lt-cancel}
 use Rattle.posit.specs.Locating.{given}
-use Rattle.posit.specs.Parts.{HighestBit}
-use Rattle.posit.specs.Magnitudes.{Within}
-use Rattle.code.specs.Code.{codeBits}
-use Rattle.code.specs.Coded.{Codes, codeFrom}
-use Rattle.code.proofs.Placed.{placed, placed-codes}
+use Rattle.code.specs.Code.{scaleIn, digitsIn, codeValue}
+use Rattle.code.specs.Coded.{Fits, Codes, first}
+use Rattle.code.proofs.Doubled.{unitsOf, Bits}
 
-pub known :
-    {es scale g : ℕ} {lost : Bool} {z : Fraction} → es ≤ 2 → 16 * 2 ^ es ≤ scale → scale + 1 < 96 * 2 ^ es → 2 ^ 28 ≤ g → g < 2 ^ 30
-    → given g scale (codeBits 28 es) ≤ᶠ z → z <ᶠ given (g + 1) scale (codeBits 28 es)
-    → (lost ≡ false → z ≈ given g scale (codeBits 28 es)) → (lost ≡ true → given g scale (codeBits 28 es) <ᶠ z)
-    → Codes es z (record { code = codeFrom scale g; lost = lost })
-known {es} {scale} {g} {lost} {z} small low high enough few at-least less whole more =
-    elim (decLe (2 ^ 29) g) [
-      | yes h ↦ by 29 (record { at-least = h; less = few }) (omega arith) (omega arith) (omega arith)
-      | no h ↦ by 28 (record { at-least = enough; less = omega arith }) (omega arith) (omega arith) (omega (arith, pow-pos es))
-    ]
-  where
-    by : (h : ℕ) → HighestBit g h → 16 * 2 ^ es + 28 ≤ scale + h → scale + h < 96 * 2 ^ es + 28 → codeFrom scale g ≡ placed scale g h
-        → Codes es z (record { code = codeFrom scale g; lost = lost })
-    by h highest l u e =
-        rw e
-        (placed-codes es scale g h highest few l u (λ k. omega (arith, enough))
-        (record { at-least = at-least; less = less; whole-of-it = whole; more-than-it = more }))
+pub given-≤ : (g f s a : ℕ) → g ≤ f → given g s a ≤ᶠ given f s a
+given-≤ g f s a h = overPower-≤ᶠ a .1 (pos-≤ℤ .1 (mul-le-mul-right (2 ^ s) h))
 
--- ---- the same, of a magnitude over another power of two
-rescaled : (g s a t b : ℕ) → s + b ≡ t + a → given g s a ≈ given g t b
-rescaled g s a t b e =
-    let powers : 2 ^ s * 2 ^ b ≡ 2 ^ t * 2 ^ a = sym (pow-add 2 s b) ∙ ap (λ (k : ℕ). 2 ^ k) e ∙ pow-add 2 t a in
-    overPower-pos-≈ a b .1 (omega (arith, ap (λ (k : ℕ). g * k) powers))
+pub given-< : (g f s a : ℕ) → g < f → given g s a <ᶠ given f s a
+given-< g f s a h = overPower-<ᶠ a .1 (pos-<ℤ .1 (mul-lt-mul-of-pos-right h (pow-pos s)))
 
-pub known-within :
-    {es scale g s a : ℕ} {lost : Bool} {z : Fraction} → es ≤ 2 → 16 * 2 ^ es ≤ scale → scale + 1 < 96 * 2 ^ es → 2 ^ 28 ≤ g → g < 2 ^ 30
-    → scale + a ≡ s + codeBits 28 es → Within z (record { g = g; s = s; a = a; lost = lost })
-    → Codes es z (record { code = codeFrom scale g; lost = lost })
-known-within {es} {scale} {g} {s} {a} small low high enough few e w =
-    let same : (k : ℕ) → given k scale (codeBits 28 es) ≈ given k s a = λ (k : ℕ). rescaled k scale (codeBits 28 es) s a e in
-    known small low high enough few
-    (≈-≤ᶠ (same g) (w .at-least))
-    (<ᶠ-≈ (w .less) (≈-sym (same (g + 1))))
-    (λ h. ≈-trans (w .whole-of-it h) (≈-sym (same g)))
-    (λ h. ≈-<ᶠ (same g) (w .more-than-it h))
+pub more-digits : (g s a k : ℕ) → given g s a ≈ given (g * 2 ^ k) s (a + k)
+more-digits g s a k = overPower-pos-≈ a (a + k) .1 (rw (pow-add 2 a k) (omega arith))
+
+module _ (c : ℕ) where
+  pub cut-scale : scaleIn 24 (first c) ≡ scaleIn 52 c
+  cut-scale = omega arith
+
+  -- numbers of 24 digits on the scale of the code, with 28 zeros
+  on-scale : (g : ℕ) → given g (scaleIn 24 (first c)) (24 + 1023) ≈ given (g * 2 ^ 28) (scaleIn 52 c) (52 + 1023)
+  on-scale g = rw cut-scale (more-digits g (scaleIn 52 c) (24 + 1023) 28)
+
+pub exact-codes : {es c : ℕ} {z : Fraction} → Fits es c → z ≈ codeValue 52 c → Codes es z c
+exact-codes {es} {c} fits same =
+    let g = digitsIn 24 (first c) in
+    record {
+      fits = fits;
+      at-least = ≈-≤ᶠ (on-scale c g) (≤ᶠ-≈ (given-≤ (g * 2 ^ 28) (digitsIn 52 c) (scaleIn 52 c) (52 + 1023) (omega arith)) (≈-sym same));
+      less = ≈-<ᶠ same (<ᶠ-≈ (given-< (digitsIn 52 c) ((g + 1) * 2 ^ 28) (scaleIn 52 c) (52 + 1023) (omega arith)) (≈-sym (on-scale c (g + 1))));
+      whole-of-it = λ _. same;
+      more-than-it = λ more. ≈-<ᶠ (on-scale c g) (<ᶠ-≈ (given-< (g * 2 ^ 28) (digitsIn 52 c) (scaleIn 52 c) (52 + 1023) (omega arith)) (≈-sym same));
+    }
+
+-- ---- the code of a double that is an exact result
+-- where the number lies, so does the scale
+scale-above : (c k : ℕ) → 2 ^ k ≤ unitsOf c → k < 53 + scaleIn 52 c
+scale-above c k h = pow-lt-cancel k (53 + scaleIn 52 c) (lt-of-le-of-lt h (shl-lt 53 (scaleIn 52 c) (omega arith)))
+
+scale-below : (c k : ℕ) → unitsOf c < 2 ^ k → 52 + scaleIn 52 c < k
+scale-below c k h =
+    let least : 2 ^ 52 ≤ digitsIn 52 c = omega arith in
+    pow-lt-cancel (52 + scaleIn 52 c) k (rw (pow-add 2 52 (scaleIn 52 c)) (lt-of-le-of-lt (mul-le-mul-right (2 ^ scaleIn 52 c) least) h))
+
+module _ {es : ℕ} {r : Float} {s : Bool} {N : ℕ} (b : Bits r s N) (large : 2 ^ (1075 - 48 * 2 ^ es) ≤ N) (small : N < 2 ^ (1075 + 32 * 2 ^ es)) where
+  pub bits-fits : Fits es (b .code)
+  bits-fits =
+      record {
+        at-least = omega (arith, scale-above (b .code) (1075 - 48 * 2 ^ es) (rw (b .units) large));
+        less = omega (arith, scale-below (b .code) (1075 + 32 * 2 ^ es) (rw (b .units) small));
+        few = b .few;
+      }
+
+  pub bits-codes : {z : Fraction} → z ≈ overPower (pos N) 1075 → Codes es z (b .code)
+  bits-codes same = exact-codes bits-fits (rw (b .units) same)

@@ -4,7 +4,6 @@ use Prim.Native.Nat.{ℕ, _/_, _%_}
 use Rattle.exact.specs.Fraction.{Fraction, _≈_, _<ᶠ_}
 use Rattle.posit.specs.Value.{value}
 use Rattle.posit.specs.Locating.{IsFloor}
-use Rattle.code.specs.declared.inner.coded.Coded.{Coded}
 use Rattle.code.specs.Coded.{Codes}
 
 pub record IsStep (n es : ℕ) (z : Fraction) (r : ℕ) : Type 0 where
@@ -12,6 +11,6 @@ pub record IsStep (n es : ℕ) (z : Fraction) (r : ℕ) : Type 0 where
   pub on-it : r % 2 ≡ 0 → z ≈ value n es (r / 2)
   pub beyond : r % 2 ≡ 1 → value n es (r / 2) <ᶠ z
 
--- whatever c knows, r is its step
-abbrev pub StepOf : ℕ → ℕ → Coded → ℕ → Type 0
+-- whatever c tells, r is its step
+abbrev pub StepOf : ℕ → ℕ → ℕ → ℕ → Type 0
 StepOf n es c r = (z : Fraction) → Codes es z c → IsStep n es z r

@@ -6,17 +6,16 @@ use Prim.Native.Nat.{ℕ, _+_, _-_, _*_, _/_, _%_, _^_, _≤_, _<_}
 use native.Mathlib.Omega.{arith}
 use lib.Dec.{leb, ltb}
 use borrow.Author.Tests.{leb-true, ltb-true}
-use Rattle.posit.specs.Format.{nar, Finite}
+use Rattle.posit.specs.Format.{nar}
 use Rattle.posit.proofs.Mirror.{power-wider, negated-positive}
 use Rattle.posit.proofs.Patterns.{some-bit}
 use Rattle.range.specs.Word.{tiles, startTile, endTile}
 use Rattle.range.specs.Member.{Real}
-use Rattle.range.specs.Numbered.{patternAt}
 use Rattle.range.specs.Spans.{topCell, startCell, endCell, startTileAt, endTileAt, cellsOf, turnedTile}
 use Rattle.range.specs.Plain.{PlainEnd}
 use Rattle.range.specs.Across.{isAcross}
 use Rattle.range.specs.Mixed.{Mixed}
-use Rattle.range.proofs.Grid.{half, once-over, pattern-low}
+use Rattle.range.proofs.Grid.{half, once-over}
 use Rattle.range.proofs.Places.{placed, tiled}
 use Rattle.range.proofs.Tiles.{closed-half}
 use Rattle.range.proofs.Turned.{turned}
@@ -61,7 +60,11 @@ negated-end n wide {c} h =
     ap (λ (d : ℕ). startTileAt n (topCell n - d)) (sym (k .end-cell-back))
     ∙ ap (startTileAt n) (sym (t .start-cell)) ∙ placed n wide (t .fits) (t .not-nar) .start-tile-back
 
--- the first cell of a start below 0
+-- a start below 0
+pub below-posit : (n : ℕ) → 3 ≤ n → {s : ℕ} → 2 ^ n + 2 ≤ s → s < tiles n → (nar n < s / 2) × (s / 2 < 2 ^ n)
+below-posit n wide h l = (omega (arith, half n (some-bit n wide)), omega (arith, power-wider n))
+
+-- its first cell
 abbrev pub belowOf : ℕ → ℕ → ℕ
 belowOf n s = s - 2 ^ n - 1
 
@@ -102,32 +105,26 @@ module _ (n : ℕ) (wide : 3 ≤ n) {s u : ℕ} (p : AcrossTiles n s u) where
   pub across-ordered : belowOf n s ≤ lastOf n u
   across-ordered = omega (arith, p, power-wider n)
 
-  -- ---- the posit and the mark at the start
-  pub below-posit-is : s / 2 ≡ patternAt n ((belowOf n s - 1) / 2)
-  below-posit-is = sym (pattern-low n (some-bit n wide) ((belowOf n s - 1) / 2) (omega (arith, p, even, power-wider n)) ∙ omega (arith, p, even))
-
-  pub below-mark-is : belowOf n s % 2 ≡ 1 - s % 2
-  below-mark-is = omega (arith, p, even)
-
-  pub below-posit : (nar n < s / 2) × (s / 2 < 2 ^ n)
-  below-posit = (omega (arith, p, even), omega (arith, p, power-wider n))
-
 -- ---- a word across 0
 module _ (n w : ℕ) (wide : 3 ≤ n) (h : isAcross n w ≡ true) where
   abbrev here : AcrossTiles n (startTile n w) (endTile n w)
   here = across-tiles n w h
 
+  pub in-order : startCell n (startTile n w) ≤ endCell n (endTile n w)
+  in-order = omega (arith, first-cell n wide here, last-cell n wide here, across-ordered n wide here)
+
+  pub across-between : cellsOf n w ≡ record { lo = startCell n (startTile n w); hi = endCell n (endTile n w) }
+  across-between = between-some n (startTile n w) (endTile n w) in-order
+
   pub across-cells : cellsOf n w ≡ record { lo = belowOf n (startTile n w); hi = lastOf n (endTile n w) }
-  across-cells =
-      between-some n (startTile n w) (endTile n w) (omega (arith, first-cell n wide here, last-cell n wide here, across-ordered n wide here))
-      ∙ (λ i. record { lo = first-cell n wide here i; hi = last-cell n wide here i })
+  across-cells = across-between ∙ (λ i. record { lo = first-cell n wide here i; hi = last-cell n wide here i })
 
   pub real-of-across : Real n w
   real-of-across =
       subst (λ (v : ℕ). Real n v) (word-of-tiles n w)
       (real-word n wide {s = startTile n w} {e = endTile n w} (here .there) (omega (arith, here, power-wider n))
       (omega (arith, here, closed-half wide)) (omega (arith, here, closed-half wide))
-      (λ i l. absurd (omega (arith, l, first-cell n wide here, last-cell n wide here, across-ordered n wide here))))
+      (λ i l. absurd (omega (arith, l, in-order))))
 
   pub across-mixed : Mixed n (cellsOf n w)
   across-mixed =

@@ -3,43 +3,38 @@
 use mathlib.Core.Path.{_≡_, refl, sym, ap, ap₂, _∙_}
 use mathlib.Core.Bool.{Bool, true, false}
 use mathlib.Core.Logic.{_⊎_, inl, inr, _≢_}
-use Prim.Native.Nat.{ℕ, zero, suc, _+_, _-_, _*_, _/_, _%_, _^_, _≤_, _<_}
+use Prim.Native.Nat.{ℕ, zero, suc, _+_, _-_, _*_, _/_, _^_, _≤_, _<_}
 use native.Mathlib.Omega.{arith}
-use native.Mathlib.Decide.{decLt}
-use Rattle.exact.specs.Fraction.{_+ᶠ_}
 use Rattle.bound.proofs.Extent.{NoMember}
 use Rattle.posit.specs.Format.{Format, nar}
 use Rattle.posit.specs.Parts.{chosenBy}
-use Rattle.posit.specs.Value.{value}
 use Rattle.posit.proofs.Mirror.{power-wider, negated-fits}
 use Rattle.posit.proofs.Patterns.{some-bit}
 use Rattle.range.specs.declared.inner.span.Span.{Span}
 use Rattle.range.specs.Word.{tiles, startTile, endTile, wordOf, openNar}
 use Rattle.range.specs.Member.{Real, Member}
 use Rattle.range.specs.Smallest.{Result}
-use Rattle.range.specs.Numbered.{patternAt}
-use Rattle.range.specs.Spans.{topCell, startCell, startTileAt, endTileAt, cellsOf, turnedTile, wordAt}
-use Rattle.range.specs.Computed.{cellOf, answerOf}
+use Rattle.range.specs.Spans.{topCell, startCell, endCell, startTileAt, endTileAt, cellsOf, turnedTile, wordAt}
+use Rattle.range.specs.Computed.{answerOf}
 use Rattle.range.specs.Cells.{sumStart, sumEnd, sumCells}
 use Rattle.range.specs.Signs.{CellAbove, resultCell, startEdge, endEdge, lastCell, positiveSome}
 use Rattle.range.specs.OneSign.{magnitudes}
 use Rattle.range.specs.Mixed.{around}
 use Rattle.range.specs.Plain.{isPlain, PlainEnd}
 use Rattle.range.specs.Across.{isAcross}
-use Rattle.range.proofs.Grid.{half, pattern-high}
+use Rattle.range.proofs.Grid.{half}
 use Rattle.range.proofs.Places.{top-cell, placed, start-unbounded, end-unbounded}
 use Rattle.range.proofs.Tiles.{half-large, closed-half}
 use Rattle.range.proofs.RealWords.{kind-empty}
-use Rattle.range.proofs.WordAt.{word-at-some, word-at-none}
-use Rattle.range.proofs.Empty.{Usable, empty-kind-iff, computed-empty-word-iff, no-result-iff}
-use Rattle.range.proofs.SumCells.{start-found, end-found}
+use Rattle.range.proofs.WordAt.{word-at-some}
+use Rattle.range.proofs.Empty.{Usable, empty-kind-iff, no-result-iff}
 use Rattle.range.proofs.SumRange.{sum-word, sum-answer}
 use Rattle.range.proofs.SignedCells.{product-answer, quotient-answer}
 use Rattle.range.proofs.ReachedCells.{start-limited, start-unlimited, end-limited, last-limited, last-no-right}
 use Rattle.range.proofs.Mixed.{mixed-products, mixed-quotients}
-use Rattle.range.proofs.PlainCells.{PlainTiles, firstOf, lastOf, plain-tiles, plain-cells, real-of-plain, plain-one-sign, plain-above, cells-ordered, last-there, start-posit-is, end-posit-is, start-mark-is, end-mark-is, start-posit-fits, end-posit-fits, plain-start, plain-end}
-use Rattle.range.proofs.PlainResults.{bothClosed, closed-small, lastFrom, end-tile-above, result-cell-above, last-moved}
-use Rattle.range.proofs.AcrossCells.{AcrossTiles, belowOf, across-tiles, across-cells, across-mixed, across-ordered, real-of-across, negated-end, upper, lower, lower-last, below-posit-is, below-mark-is}
+use Rattle.range.proofs.PlainCells.{PlainTiles, firstOf, lastOf, plain-tiles, plain-between, plain-cells, real-of-plain, plain-one-sign, plain-above, cells-ordered, ends-ordered, last-there, start-posit-is, end-posit-is, start-mark-is, end-mark-is, start-posit-fits, end-posit-fits, plain-start, plain-end}
+use Rattle.range.proofs.PlainResults.{bothClosed, lastFrom, end-tile-above, result-cell-above, tiles-answer}
+use Rattle.range.proofs.AcrossCells.{AcrossTiles, belowOf, across-tiles, across-between, across-cells, in-order, across-mixed, across-ordered, real-of-across, negated-end, upper, lower, lower-last}
 
 -- ---- the last cell at two ends
 module _ (n : ℕ) (wide : 3 ≤ n) where
@@ -59,13 +54,6 @@ last-from n es wide divide f g k e = last-at n wide k (result-cell-above n es wi
 
 pub turned-tile-fits : (n t : ℕ) {x : ℕ} → x ≡ turnedTile n t → x < tiles n
 turned-tile-fits n t e = omega (arith, e, negated-fits n (t / 2), power-wider n)
-
-pub moved-up-small : (s t c : ℕ) → c % 2 * (1 - bothClosed s t) ≤ c % 2
-moved-up-small s t c = by (bothClosed s t) (closed-small s t)
-  where
-    by : (k : ℕ) → k ≤ 1 → c % 2 * (1 - k) ≤ c % 2
-    by zero h = omega arith
-    by (suc k) h = let e : 1 - suc k ≡ 0 = omega arith in rw e (omega arith)
 
 module _ (n es : ℕ) (wide : 3 ≤ n) {y z w : ℕ} (p : PlainEnd n y) (q : PlainTiles n z w) where
   product-last : {r : ℕ} → r ≡ resultCell n es false (y / 2) (w / 2) → lastFrom y w r ≡ lastCell n es false (endEdge n (lastOf n y)) (endEdge n (lastOf n w))
@@ -202,11 +190,6 @@ module _ {n es a b s t u v : ℕ} (o : AcrossEnds n es a b s t u v) where
       ∙ quotients-are
 
   -- ---- sums
-  start-posit : t / 2 ≡ patternAt n ((firstOf n t - 1) / 2)
-  start-posit =
-      let e = half n (some-bit n wide) in
-      sym (pattern-high n (some-bit n wide) ((firstOf n t - 1) / 2) (omega (arith, right-tiles, e)) (omega (arith, right-tiles, e)) ∙ omega (arith, right-tiles, e))
-
   some-member : {w : ℕ} → Real n w → cellsOf n w .lo ≤ cellsOf n w .hi → ¬ NoMember (Member n es w)
   some-member {w} r l k = let h = kind-empty n wide w (r .fits) .0 (empty-kind-iff n es wide r .1 k) .1 in omega arith
 
@@ -218,32 +201,29 @@ module _ {n es a b s t u v : ℕ} (o : AcrossEnds n es a b s t u v) where
       by (inr f) =
           some-member right-real (rw right-cells (cells-ordered right-tiles)) (λ y m. f y (record { member = m; divisor = λ e. absurd (omega (arith, e)) }))
 
-  module _ {lo hi : ℕ} (e : lo ≡ cellOf n es (value n es (s / 2) +ᶠ value n es (t / 2))) (f : hi ≡ cellOf n es (value n es (u / 2) +ᶠ value n es (v / 2))) where
-    abbrev first : ℕ
-    first = lo + lo % 2 * (1 - bothClosed s t)
+  abbrev left-ends : Span
+  left-ends = record { lo = startCell n s; hi = endCell n u }
 
-    sum-first : first ≡ sumStart n es (belowOf n s) (firstOf n t)
-    sum-first =
-        ap₂ (λ (p q : ℕ). lo + lo % 2 * (1 - p * q)) (sym (below-mark-is n wide left-tiles)) (sym (start-mark-is n wide (plain-start right-tiles)))
-        ∙ start-found n es wide (belowOf n s) (firstOf n t) (below-posit-is n wide left-tiles) start-posit e (omega (arith, left-tiles)) (omega (arith, right-tiles, half-large wide))
+  abbrev right-ends : Span
+  right-ends = record { lo = startCell n t; hi = endCell n v }
 
-    sum-last : lastFrom u v hi ≡ sumEnd n es (lastOf n u) (lastOf n v)
-    sum-last =
-        sym (last-moved u v hi)
-        ∙ ap₂ (λ (p q : ℕ). hi - hi % 2 * (1 - p * q)) (sym (end-mark-is n wide (upper n wide left-tiles))) (sym (end-mark-is n wide (plain-end right-tiles)))
-        ∙ end-found n es wide (lastOf n u) (lastOf n v) (last-there n wide (upper n wide left-tiles)) (last-there n wide (plain-end right-tiles))
-        (end-posit-is n wide (upper n wide left-tiles)) (end-posit-is n wide (plain-end right-tiles)) f
+  left-between : cellsOf n a ≡ left-ends
+  left-between = rw (o .left-start, o .left-end) (across-between n a wide (o .left-across))
 
-    sums-are : wordAt n (record { lo = first; hi = lastFrom u v hi }) ≡ answerOf n es 0 a b
-    sums-are =
-        sym (sum-answer n es wide left-real right-real
-        ∙ ap₂ (λ (x y : Span). wordAt n (sumCells n es x y)) left-cells right-cells
-        ∙ sym (sum-word n es wide (record { lo = belowOf n s; hi = lastOf n u }) right sum-first sum-last (across-ordered n wide left-tiles) (cells-ordered right-tiles) refl))
+  right-between : cellsOf n b ≡ right-ends
+  right-between = rw (o .right-start, o .right-end) (plain-between n b wide (o .right-plain))
 
-    pub sum-found : {x y w : ℕ} → x ≡ startTileAt n first → y ≡ endTileAt n (lastFrom u v hi) → w ≡ wordOf n x y → w ≡ answerOf n es 0 a b
-    sum-found i j g = g ∙ ap₂ (wordOf n) i j ∙ by (decLt (lastFrom u v hi) first)
-      where
-        by : Dec (lastFrom u v hi < first) → wordOf n (startTileAt n first) (endTileAt n (lastFrom u v hi)) ≡ answerOf n es 0 a b
-        by (yes l) =
-            absurd (some-sum (computed-empty-word-iff n es 0 a b wide (omega arith) .0 (sym sums-are ∙ word-at-none n (record { lo = first; hi = lastFrom u v hi }) l)))
-        by (no l) = sym (word-at-some n (record { lo = first; hi = lastFrom u v hi }) (omega arith)) ∙ sums-are
+  left-order : startCell n s ≤ endCell n u
+  left-order = rw (o .left-start, o .left-end) (in-order n a wide (o .left-across))
+
+  sums-are :
+      answerOf n es 0 a b
+      ≡ wordAt n (record { lo = sumStart n es (startCell n s) (startCell n t); hi = sumEnd n es (endCell n u) (endCell n v) })
+  sums-are =
+      sum-answer n es wide left-real right-real
+      ∙ ap₂ (λ (x y : Span). wordAt n (sumCells n es x y)) left-between right-between
+      ∙ sym (sum-word n es wide left-ends right-ends refl refl left-order (ends-ordered n wide right-tiles) refl)
+
+  pub sum-found : {x y w : ℕ} → x ≡ startTileAt n (sumStart n es (startCell n s) (startCell n t))
+      → y ≡ endTileAt n (sumEnd n es (endCell n u) (endCell n v)) → w ≡ wordOf n x y → w ≡ answerOf n es 0 a b
+  sum-found = tiles-answer n es wide 0 a b (omega arith) some-sum _ _ sums-are

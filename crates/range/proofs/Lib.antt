@@ -47,6 +47,7 @@ pub mod Mixed
 pub mod Marks
 pub mod PlainCells
 pub mod PlainResults
+pub mod SumTiles
 pub mod AcrossCells
 pub mod AcrossResults
 pub mod Spreading

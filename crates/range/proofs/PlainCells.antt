@@ -78,7 +78,7 @@ module _ (n : ℕ) (wide : 3 ≤ n) where
     pub start-posit-fits : s ≢ openZero → (0 < s / 2) × (s / 2 < nar n)
     start-posit-fits d = omega (arith, p, even)
 
-    pub start-below : s / 2 < nar n
+    start-below : s / 2 < nar n
     start-below = omega (arith, p, even)
 
     pub start-finite : Finite n (s / 2)
@@ -116,6 +116,9 @@ module _ (n : ℕ) (wide : 3 ≤ n) where
 pub cells-ordered : {n s t : ℕ} → PlainTiles n s t → firstOf n s ≤ lastOf n t
 cells-ordered p = omega (arith, p)
 
+pub ends-ordered : (n : ℕ) → 3 ≤ n → {s t : ℕ} → PlainTiles n s t → startCell n s ≤ endCell n t
+ends-ordered n wide p = omega (arith, plain-first n wide (plain-start p), plain-last n wide (plain-end p), cells-ordered p)
+
 -- ---- a plain word
 module _ (n w : ℕ) (wide : 3 ≤ n) (h : isPlain n w ≡ true) where
   abbrev here : PlainTiles n (startTile n w) (endTile n w)
@@ -128,7 +131,7 @@ module _ (n w : ℕ) (wide : 3 ≤ n) (h : isPlain n w ≡ true) where
   end-here = plain-last n wide (plain-end here)
 
   pub plain-between : cellsOf n w ≡ record { lo = startCell n (startTile n w); hi = endCell n (endTile n w) }
-  plain-between = between-some n (startTile n w) (endTile n w) (omega (arith, start-here, end-here, cells-ordered here))
+  plain-between = between-some n (startTile n w) (endTile n w) (ends-ordered n wide here)
 
   pub plain-cells : cellsOf n w ≡ record { lo = firstOf n (startTile n w); hi = lastOf n (endTile n w) }
   plain-cells = plain-between ∙ (λ i. record { lo = start-here i; hi = end-here i })
@@ -138,7 +141,7 @@ module _ (n w : ℕ) (wide : 3 ≤ n) (h : isPlain n w ≡ true) where
       subst (λ (v : ℕ). Real n v) (word-of-tiles n w)
       (real-word n wide {s = startTile n w} {e = endTile n w} (omega (arith, here, power-wider n)) (omega (arith, here, power-wider n))
       (omega (arith, here, closed-half wide)) (omega (arith, here, closed-half wide))
-      (λ i l. absurd (omega (arith, l, start-here, end-here, cells-ordered here))))
+      (λ i l. absurd (omega (arith, l, ends-ordered n wide here))))
 
   pub plain-one-sign : OneSign n (cellsOf n w)
   plain-one-sign =

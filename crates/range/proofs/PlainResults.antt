@@ -4,7 +4,7 @@ use mathlib.Core.Path.{_≡_, refl, sym, ap, ap₂, _∙_}
 use mathlib.Core.Bool.{Bool, true, false, Bool·beq}
 use mathlib.Core.Logic.{_≢_, _⊎_, inl, inr}
 use Prim.Native.Nat.{ℕ, _+_, _-_, _*_, _/_, _%_, _^_, _≤_, _<_}
-use native.Mathlib.Nat.{mod-lt}
+use native.Mathlib.Nat.{mod-eq-of-lt, mod-lt}
 use native.Mathlib.Omega.{arith}
 use native.Mathlib.Decide.{decLt}
 use lib.Bits.{bitOr}
@@ -18,7 +18,7 @@ use Rattle.exact.proofs.Powers.{parity}
 use Rattle.exact.proofs.Product.{product-above-above}
 use Rattle.exact.proofs.Quotient.{quotient-above-above}
 use Rattle.exact.proofs.Sum.{+ᶠ-mono-<, +ᶠ-idl}
-use Rattle.bound.specs.Fractions.{same-of-≈, less-of-<ᶠ}
+use Rattle.bound.specs.Fractions.{same-of-≈}
 use Rattle.bound.specs.Cell.{cell}
 use Rattle.bound.proofs.CellEnd.{cell-has-number}
 use Rattle.bound.proofs.Extent.{NoMember}
@@ -33,35 +33,33 @@ use Rattle.range.specs.declared.inner.span.Span.{Span}
 use Rattle.range.specs.Word.{tiles, startTile, endTile, wordOf}
 use Rattle.range.specs.Member.{Member}
 use Rattle.range.specs.Smallest.{Result}
-use Rattle.range.specs.Numbered.{numberOf}
 use Rattle.range.specs.Spans.{topCell, startCell, endCell, startTileAt, endTileAt, cellsOf, wordAt}
 use Rattle.range.specs.Computed.{cellOf, answerOf}
 use Rattle.range.specs.Cells.{sumStart, sumEnd, sumCells}
 use Rattle.range.specs.Signs.{Edge, resultOf, resultCell, startEdge, endEdge, firstCell, lastCell, turnedCells, pickSpan, positiveSome}
 use Rattle.range.specs.OneSign.{magnitudes, withSigns}
 use Rattle.range.specs.Plain.{isPlain, openZero, PlainStart, PlainEnd}
-use Rattle.range.proofs.Grid.{posits, once-over, half, number-below}
+use Rattle.range.proofs.Grid.{posits, once-over, half}
 use Rattle.range.proofs.Places.{top-cell}
 use Rattle.range.proofs.Tiles.{half-large, open-half, end-tile-is}
 use Rattle.range.proofs.WordAt.{word-at-some, word-at-none}
 use Rattle.range.proofs.Members.{member-cells}
-use Rattle.range.proofs.Computed.{cell-computed}
 use Rattle.range.proofs.Empty.{Usable, computed-empty-word-iff, no-result-iff}
 use Rattle.range.proofs.CellFrom.{cell-bounded}
-use Rattle.range.proofs.ZeroCell.{above-zero, zero-below}
-use Rattle.range.proofs.SumCells.{zero-left, zero-right, start-found, end-found}
+use Rattle.range.proofs.ZeroCell.{above-cell, zero-below}
+use Rattle.range.proofs.SumCells.{end-found}
 use Rattle.range.proofs.SumRange.{sum-word, sum-answer}
 use Rattle.range.proofs.SignedCells.{product-answer, quotient-answer}
 use Rattle.range.proofs.ReachedCells.{start-limited, start-unlimited, end-limited, first-limited, first-no-left, first-no-right, last-limited, last-no-right}
 use Rattle.range.proofs.OneSigned.{above-magnitudes, products-of-magnitudes, quotients-of-magnitudes}
 use Rattle.range.proofs.Marks.{open-mark, with-mark}
-use Rattle.range.proofs.PlainCells.{PlainTiles, firstOf, lastOf, plain-tiles, plain-start, plain-end, plain-first, plain-last, plain-between, plain-cells, real-of-plain, plain-one-sign, plain-above, cells-ordered, last-there, start-finite, start-posit-is, end-posit-is, start-mark-is, end-mark-is}
+use Rattle.range.proofs.PlainCells.{PlainTiles, firstOf, lastOf, plain-tiles, plain-end, plain-first, plain-last, plain-between, plain-cells, real-of-plain, plain-one-sign, plain-above, cells-ordered, ends-ordered, last-there, start-posit-is, end-posit-is, start-mark-is, end-mark-is}
 
 -- ---- two closed ends, as a mark
 abbrev pub bothClosed : ℕ → ℕ → ℕ
 bothClosed s t = (1 - s % 2) * (1 - t % 2)
 
-closed-by : (s t : ℕ) → (bothClosed s t ≡ 0) ⊎ (bothClosed s t ≡ 1)
+pub closed-by : (s t : ℕ) → (bothClosed s t ≡ 0) ⊎ (bothClosed s t ≡ 1)
 closed-by s t = by (parity s) (parity t)
   where
     by : (s % 2 ≡ 0) ⊎ (s % 2 ≡ 1) → (t % 2 ≡ 0) ⊎ (t % 2 ≡ 1) → (bothClosed s t ≡ 0) ⊎ (bothClosed s t ≡ 1)
@@ -70,16 +68,9 @@ closed-by s t = by (parity s) (parity t)
     by (inr e) (inl f) = inl (rw (e, f) refl)
     by (inr e) (inr f) = inl (rw (e, f) refl)
 
-open-either : (s t : ℕ) → (s % 2 ≡ 1) ⊎ (t % 2 ≡ 1) → bothClosed s t ≡ 0
+pub open-either : (s t : ℕ) → (s % 2 ≡ 1) ⊎ (t % 2 ≡ 1) → bothClosed s t ≡ 0
 open-either s t (inl e) = rw e (omega arith)
 open-either s t (inr e) = rw e (omega arith)
-
-pub closed-small : (s t : ℕ) → bothClosed s t ≤ 1
-closed-small s t = by (closed-by s t)
-  where
-    by : (bothClosed s t ≡ 0) ⊎ (bothClosed s t ≡ 1) → bothClosed s t ≤ 1
-    by (inl e) = omega arith
-    by (inr e) = omega arith
 
 -- the first and the last cell of the results at two ends, by the cell of their exact result
 abbrev pub firstFrom : ℕ → ℕ → ℕ → ℕ
@@ -95,13 +86,43 @@ start-tile-fits n c = mod-lt (c + 1 + 2 ^ n) (pow-pos (n + 1))
 pub end-tile-fits : (n c : ℕ) → 3 ≤ n → endTileAt n c < tiles n
 end-tile-fits n c wide = rw (← end-tile-is n refl wide c, power-wider n) (mod-lt (c + 3 - 2 * (c % 2) + 2 ^ n) (omega (arith, half-large wide)))
 
+-- ---- the start tile of a cell: half a turn away
+module _ (n : ℕ) (wide : 3 ≤ n) {c : ℕ} (there : c ≤ topCell n) where
+  start-tile-low : c + 1 < 2 ^ n → startTileAt n c ≡ c + 1 + 2 ^ n
+  start-tile-low l = mod-eq-of-lt (omega (arith, power-wider n))
+
+  start-tile-high : 2 ^ n ≤ c + 1 → startTileAt n c ≡ c + 1 - 2 ^ n
+  start-tile-high l =
+      once-over {x = c + 1 + 2 ^ n} {m = tiles n} (omega (arith, power-wider n)) (omega (arith, there, power-wider n, half-large wide))
+      ∙ omega (arith, power-wider n)
+
+-- the gap above a posit has the posit's tile with the mark of an open end, and a gap's tile has it already
+marked-tile : (n : ℕ) → 3 ≤ n → {c : ℕ} → c ≤ topCell n → startTileAt n (2 * ((c + 1) / 2)) ≡ startTileAt n c + (1 - startTileAt n c % 2)
+marked-tile n wide {c} there = by (decLt (c + 1) (2 ^ n))
+  where
+    even : 2 ^ n ≡ 2 * nar n
+    even = half n (some-bit n wide)
+
+    fits : 2 * ((c + 1) / 2) ≤ topCell n
+    fits = omega (arith, top-cell n wide)
+
+    by : Dec (c + 1 < 2 ^ n) → startTileAt n (2 * ((c + 1) / 2)) ≡ startTileAt n c + (1 - startTileAt n c % 2)
+    by (yes l) = omega (arith, start-tile-low n wide fits (omega (arith, even)), start-tile-low n wide there l, even)
+    by (no l) = omega (arith, start-tile-high n wide fits (omega arith), start-tile-high n wide there (omega arith), even)
+
+-- a mark joined to a tile
+open-joined : (s t x : ℕ) → bitOr x (bitOr s t % 2) ≡ x + (1 - x % 2) * (1 - bothClosed s t)
+open-joined s t x = with-mark x (bitOr s t % 2) (omega arith) ∙ ap (λ (u : ℕ). x + (1 - x % 2) * u) (open-mark s t)
+
+pub opened-tile : (n : ℕ) → 3 ≤ n → (s t : ℕ) {c : ℕ} → c ≤ topCell n → bitOr (startTileAt n c) (bitOr s t % 2) ≡ startTileAt n (firstFrom s t c)
+opened-tile n wide s t {c} there = open-joined s t (startTileAt n c) ∙ by (closed-by s t)
+  where
+    by : (bothClosed s t ≡ 0) ⊎ (bothClosed s t ≡ 1) → startTileAt n c + (1 - startTileAt n c % 2) * (1 - bothClosed s t) ≡ startTileAt n (firstFrom s t c)
+    by (inl e) = rw e (omega (arith, marked-tile n wide there))
+    by (inr e) = rw e (omega arith)
+
 -- ---- the tiles of a cell above that of 0
 module _ (n : ℕ) (wide : 3 ≤ n) {c : ℕ} (above : 2 ^ n ≤ c) (there : c ≤ topCell n) where
-  start-tile-above : startTileAt n c ≡ c + 1 - 2 ^ n
-  start-tile-above =
-      once-over {x = c + 1 + 2 ^ n} {m = tiles n} (omega (arith, above, power-wider n)) (omega (arith, there, power-wider n, half-large wide))
-      ∙ omega (arith, above, power-wider n)
-
   pub end-tile-above : endTileAt n c ≡ c + 3 - 2 * (c % 2) - 2 ^ n
   end-tile-above =
       sym (end-tile-is n refl wide c)
@@ -118,20 +139,12 @@ module _ (n : ℕ) (wide : 3 ≤ n) (s t : ℕ) {c : ℕ} (above : 2 ^ n ≤ c) 
   step-mark : step % 2 ≡ 1 - c % 2
   step-mark = omega (arith, even, above)
 
-  open-joined : (x : ℕ) → bitOr x (bitOr s t % 2) ≡ x + (1 - x % 2) * (1 - bothClosed s t)
-  open-joined x = with-mark x (bitOr s t % 2) (omega arith) ∙ ap (λ (u : ℕ). x + (1 - x % 2) * u) (open-mark s t)
-
   pub start-tile-found : bitOr step (bitOr s t % 2) ≡ startTileAt n (firstFrom s t c)
-  start-tile-found = open-joined step ∙ by (closed-by s t)
-    where
-      by : (bothClosed s t ≡ 0) ⊎ (bothClosed s t ≡ 1) → step + (1 - step % 2) * (1 - bothClosed s t) ≡ startTileAt n (firstFrom s t c)
-      by (inl e) =
-          rw e (omega (arith, start-tile-above n wide {c = 2 * ((c + 1) / 2)} (omega (arith, above)) (omega (arith, there, top-cell n wide)), even, above))
-      by (inr e) = rw e (omega (arith, start-tile-above n wide above there))
+  start-tile-found = ap (λ (x : ℕ). bitOr x (bitOr s t % 2)) (sym (start-tile-high n wide there (omega (arith, above)))) ∙ opened-tile n wide s t there
 
   pub end-tile-found : bitOr (step + 2 * (step % 2)) (bitOr s t % 2) ≡ endTileAt n (lastFrom s t c)
   end-tile-found =
-      open-joined (step + 2 * (step % 2))
+      open-joined s t (step + 2 * (step % 2))
       ∙ ap (λ (k : ℕ). step + 2 * (step % 2) + (1 - k) * (1 - bothClosed s t)) (two-more step)
       ∙ by (closed-by s t)
     where
@@ -146,9 +159,6 @@ module _ (n : ℕ) (wide : 3 ≤ n) (s t : ℕ) {c : ℕ} (above : 2 ^ n ≤ c) 
 
 -- ---- the cell of a result above 0
 module _ (n es : ℕ) (wide : 3 ≤ n) where
-  above-cell : {x : Fraction} → whole (pos 0) <ᶠ x → 2 ^ n ≤ cellOf n es x
-  above-cell {x} h = rw (cell-computed n es wide x) (above-zero n es wide (less-of-<ᶠ h))
-
   module _ {p q : ℕ} (f : (0 < p) × (p < nar n)) (g : (0 < q) × (q < nar n)) where
     left-above : whole (pos 0) <ᶠ value n es p
     left-above = value-positive n es (f .0) (f .1)
@@ -164,12 +174,12 @@ module _ (n es : ℕ) (wide : 3 ≤ n) where
     sum-above = ≈-<ᶠ (≈-sym (+ᶠ-idl (whole (pos 0)))) (+ᶠ-mono-< (≤ᶠ-of-<ᶠ left-above) right-above)
 
     pub result-cell-above : (divide : Bool) {c : ℕ} → c ≡ resultCell n es divide p q → (2 ^ n ≤ c) × (c ≤ topCell n)
-    result-cell-above divide e = rw e (above-cell (result-above divide), cell-bounded n es wide (resultOf divide (value n es p) (value n es q)))
+    result-cell-above divide e = rw e (above-cell n es wide (result-above divide), cell-bounded n es wide (resultOf divide (value n es p) (value n es q)))
 
     pub sum-cell-above : {c : ℕ} → c ≡ cellOf n es (value n es p +ᶠ value n es q) → (2 ^ n ≤ c) × (c ≤ topCell n)
-    sum-cell-above e = rw e (above-cell sum-above, cell-bounded n es wide (value n es p +ᶠ value n es q))
+    sum-cell-above e = rw e (above-cell n es wide sum-above, cell-bounded n es wide (value n es p +ᶠ value n es q))
 
-  -- ---- an answer is not empty
+  -- ---- the results of plain ranges are some
   some-member : (w : ℕ) → isPlain n w ≡ true → (x : Fraction) × (2 ^ n ≤ cell (posits n es wide) x) × Member n es w x
   some-member w h =
       let r = real-of-plain n w wide h in
@@ -189,13 +199,14 @@ module _ (n es : ℕ) (wide : 3 ≤ n) where
         by (inl f) = let (x, l, m) = some-member a h in f x m
         by (inr f) = let (y, l, m) = some-member b k in f y (usable y l m)
 
-    tiles-answer : (lo hi : ℕ) → answerOf n es op a b ≡ wordAt n (record { lo = lo; hi = hi })
-        → {x y w : ℕ} → x ≡ startTileAt n lo → y ≡ endTileAt n hi → w ≡ wordOf n x y → w ≡ answerOf n es op a b
-    tiles-answer lo hi e i j g = g ∙ ap₂ (wordOf n) i j ∙ by (decLt hi lo)
-      where
-        by : Dec (hi < lo) → wordOf n (startTileAt n lo) (endTileAt n hi) ≡ answerOf n es op a b
-        by (yes l) = absurd (some-result (computed-empty-word-iff n es op a b wide known .0 (e ∙ word-at-none n (record { lo = lo; hi = hi }) l)))
-        by (no l) = sym (e ∙ word-at-some n (record { lo = lo; hi = hi }) (omega arith))
+  -- ---- two tiles make an answer that is not empty
+  pub tiles-answer : (op a b : ℕ) → op ≤ divide → ¬ NoMember (Result n es op a b) → (lo hi : ℕ) → answerOf n es op a b ≡ wordAt n (record { lo = lo; hi = hi })
+      → {x y w : ℕ} → x ≡ startTileAt n lo → y ≡ endTileAt n hi → w ≡ wordOf n x y → w ≡ answerOf n es op a b
+  tiles-answer op a b known some lo hi e i j g = g ∙ ap₂ (wordOf n) i j ∙ by (decLt hi lo)
+    where
+      by : Dec (hi < lo) → wordOf n (startTileAt n lo) (endTileAt n hi) ≡ answerOf n es op a b
+      by (yes l) = absurd (some (computed-empty-word-iff n es op a b wide known .0 (e ∙ word-at-none n (record { lo = lo; hi = hi }) l)))
+      by (no l) = sym (e ∙ word-at-some n (record { lo = lo; hi = hi }) (omega arith))
 
 -- ---- the ends of plain ranges
 -- a limit at the posit of a tile, in the cell c
@@ -231,7 +242,7 @@ module _ (n : ℕ) (wide : 3 ≤ n) where
   no-start {s} p e = rw (plain-first n wide p) (start-unlimited n (firstOf n s) refl (omega arith))
 
   first-tile : {c : ℕ} → 2 ^ n ≡ c → openZero ≡ startTileAt n c
-  first-tile {c} e = omega (arith, start-tile-above n wide {c = c} (omega arith) (omega (arith, power-wider n, half-large wide)))
+  first-tile {c} e = omega (arith, start-tile-high n wide {c = c} (omega (arith, power-wider n, half-large wide)) (omega arith))
 
   module _ (es : ℕ) (divide : Bool) where
     pub zero-first : {s : ℕ} → PlainStart n s → s ≡ openZero → (y : Edge) → openZero ≡ startTileAt n (firstCell n es divide (startEdge n (startCell n s)) y)
@@ -264,60 +275,25 @@ module _ (n es : ℕ) (divide : Bool) {x y : Edge} {c d s t : ℕ} (i : EdgeAt x
   end-between h = h ∙ ap (endTileAt n) last-between
 
 -- ---- sums move to the gap beside them
-first-moved : (s t c : ℕ) → c + c % 2 * (1 - bothClosed s t) ≡ firstFrom s t c
-first-moved s t c = by (closed-by s t)
-  where
-    by : (bothClosed s t ≡ 0) ⊎ (bothClosed s t ≡ 1) → c + c % 2 * (1 - bothClosed s t) ≡ firstFrom s t c
-    by (inl e) = rw e (omega arith)
-    by (inr e) = rw e (omega arith)
-
-pub last-moved : (s t c : ℕ) → c - c % 2 * (1 - bothClosed s t) ≡ lastFrom s t c
+last-moved : (s t c : ℕ) → c - c % 2 * (1 - bothClosed s t) ≡ lastFrom s t c
 last-moved s t c = by (closed-by s t)
   where
     by : (bothClosed s t ≡ 0) ⊎ (bothClosed s t ≡ 1) → c - c % 2 * (1 - bothClosed s t) ≡ lastFrom s t c
     by (inl e) = rw e (omega arith)
     by (inr e) = rw e (omega arith)
 
--- ---- the ends of the sums
-module _ (n es : ℕ) (wide : 3 ≤ n) where
-  module _ {s t : ℕ} (p : PlainStart n s) (q : PlainStart n t) where
-    sum-first : {c : ℕ} → c ≡ cellOf n es (value n es (s / 2) +ᶠ value n es (t / 2)) → firstFrom s t c ≡ sumStart n es (startCell n s) (startCell n t)
-    sum-first {c} e =
-        rw (plain-first n wide p, plain-first n wide q)
-        (sym (first-moved s t c)
-        ∙ ap₂ (λ (x y : ℕ). c + c % 2 * (1 - x * y)) (sym (start-mark-is n wide p)) (sym (start-mark-is n wide q))
-        ∙ start-found n es wide (firstOf n s) (firstOf n t) (start-posit-is n wide p) (start-posit-is n wide q) e (omega (arith, p)) (omega (arith, q)))
+-- ---- the end of the sums
+module _ (n es : ℕ) (wide : 3 ≤ n) {u v : ℕ} (p : PlainEnd n u) (q : PlainEnd n v) where
+  sum-last : {c : ℕ} → c ≡ cellOf n es (value n es (u / 2) +ᶠ value n es (v / 2)) → lastFrom u v c ≡ sumEnd n es (endCell n u) (endCell n v)
+  sum-last {c} e =
+      rw (plain-last n wide p, plain-last n wide q)
+      (sym (last-moved u v c)
+      ∙ ap₂ (λ (x y : ℕ). c - c % 2 * (1 - x * y)) (sym (end-mark-is n wide p)) (sym (end-mark-is n wide q))
+      ∙ end-found n es wide (lastOf n u) (lastOf n v) (last-there n wide p) (last-there n wide q) (end-posit-is n wide p) (end-posit-is n wide q) e)
 
-    pub sums-start : {c w : ℕ} → c ≡ cellOf n es (value n es (s / 2) +ᶠ value n es (t / 2)) → w ≡ startTileAt n (firstFrom s t c)
-        → w ≡ startTileAt n (sumStart n es (startCell n s) (startCell n t))
-    sums-start e h = h ∙ ap (startTileAt n) (sum-first e)
-
-    -- beside an open 0 the cell is that of the other posit, and the sums start above it
-    opened : {x : ℕ} → PlainStart n x → bothClosed s t ≡ 0 → bitOr x 1 ≡ startTileAt n (firstFrom s t (2 * numberOf n (x / 2) + 1))
-    opened {x} k m =
-        let even = half n (some-bit n wide) in
-        let number = number-below n (some-bit n wide) {p = x / 2} (omega (arith, k, even)) in
-        let c = 2 * numberOf n (x / 2) + 1 in
-        rw (m, with-mark x 1 (omega arith))
-        (omega (arith, number, start-tile-above n wide {c = 2 * ((c + 1) / 2)} (omega (arith, number, even)) (omega (arith, number, k, even, power-wider n)), even))
-
-    pub sums-from-right : s ≡ openZero → bitOr t 1 ≡ startTileAt n (sumStart n es (startCell n s) (startCell n t))
-    sums-from-right e = sums-start (zero-left n es wide (start-finite n wide q) (rw e refl) refl) (opened q (open-either s t (inl (rw e refl))))
-
-    pub sums-from-left : t ≡ openZero → bitOr s 1 ≡ startTileAt n (sumStart n es (startCell n s) (startCell n t))
-    sums-from-left e = sums-start (zero-right n es wide (start-finite n wide p) (rw e refl) refl) (opened p (open-either s t (inr (rw e refl))))
-
-  module _ {u v : ℕ} (p : PlainEnd n u) (q : PlainEnd n v) where
-    sum-last : {c : ℕ} → c ≡ cellOf n es (value n es (u / 2) +ᶠ value n es (v / 2)) → lastFrom u v c ≡ sumEnd n es (endCell n u) (endCell n v)
-    sum-last {c} e =
-        rw (plain-last n wide p, plain-last n wide q)
-        (sym (last-moved u v c)
-        ∙ ap₂ (λ (x y : ℕ). c - c % 2 * (1 - x * y)) (sym (end-mark-is n wide p)) (sym (end-mark-is n wide q))
-        ∙ end-found n es wide (lastOf n u) (lastOf n v) (last-there n wide p) (last-there n wide q) (end-posit-is n wide p) (end-posit-is n wide q) e)
-
-    pub sums-end : {c w : ℕ} → c ≡ cellOf n es (value n es (u / 2) +ᶠ value n es (v / 2)) → w ≡ endTileAt n (lastFrom u v c)
-        → w ≡ endTileAt n (sumEnd n es (endCell n u) (endCell n v))
-    sums-end e h = h ∙ ap (endTileAt n) (sum-last e)
+  pub sums-end : {c w : ℕ} → c ≡ cellOf n es (value n es (u / 2) +ᶠ value n es (v / 2)) → w ≡ endTileAt n (lastFrom u v c)
+      → w ≡ endTileAt n (sumEnd n es (endCell n u) (endCell n v))
+  sums-end e h = h ∙ ap (endTileAt n) (sum-last e)
 
 -- ---- the answers
 -- two plain ranges a and b, with the start tiles s and t and the end tiles u and v
@@ -373,19 +349,16 @@ module _ {n es a b s t u v : ℕ} (o : PlainEnds n es a b s t u v) where
   -- ---- two tiles of the answer make the answer
   pub product-found : {x y w : ℕ} → x ≡ startTileAt n (firstCell n es false (startEdge n (startCell n s)) (startEdge n (startCell n t)))
       → y ≡ endTileAt n (lastCell n es false (endEdge n (endCell n u)) (endEdge n (endCell n v))) → w ≡ wordOf n x y → w ≡ answerOf n es 2 a b
-  product-found = tiles-answer n es wide 2 a b (omega arith) (o .left-plain) (o .right-plain) _ _ products-are
+  product-found = tiles-answer n es wide 2 a b (omega arith) (some-result n es wide 2 a b (omega arith) (o .left-plain) (o .right-plain)) _ _ products-are
 
   pub quotient-found : {x y w : ℕ} → x ≡ startTileAt n (firstCell n es true (startEdge n (startCell n s)) (endEdge n (endCell n v)))
       → y ≡ endTileAt n (lastCell n es true (endEdge n (endCell n u)) (startEdge n (startCell n t))) → w ≡ wordOf n x y → w ≡ answerOf n es 3 a b
-  quotient-found = tiles-answer n es wide 3 a b (omega arith) (o .left-plain) (o .right-plain) _ _ quotients-are
+  quotient-found = tiles-answer n es wide 3 a b (omega arith) (some-result n es wide 3 a b (omega arith) (o .left-plain) (o .right-plain)) _ _ quotients-are
 
   pub sum-found : {x y w : ℕ} → x ≡ startTileAt n (sumStart n es (startCell n s) (startCell n t))
       → y ≡ endTileAt n (sumEnd n es (endCell n u) (endCell n v)) → w ≡ wordOf n x y → w ≡ answerOf n es 0 a b
   sum-found =
-      tiles-answer n es wide 0 a b (omega arith) (o .left-plain) (o .right-plain) _ _
+      tiles-answer n es wide 0 a b (omega arith) (some-result n es wide 0 a b (omega arith) (o .left-plain) (o .right-plain)) _ _
       (sum-answer n es wide (real-of-plain n a wide (o .left-plain)) (real-of-plain n b wide (o .right-plain))
       ∙ ap₂ (λ (x y : Span). wordAt n (sumCells n es x y)) left-cells right-cells
-      ∙ sym (sum-word n es wide left right refl refl (in-order left-tiles) (in-order right-tiles) refl))
-    where
-      in-order : {s t : ℕ} → PlainTiles n s t → startCell n s ≤ endCell n t
-      in-order p = omega (arith, plain-first n wide (plain-start p), plain-last n wide (plain-end p), cells-ordered p)
+      ∙ sym (sum-word n es wide left right refl refl (ends-ordered n wide left-tiles) (ends-ordered n wide right-tiles) refl))

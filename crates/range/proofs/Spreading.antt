@@ -11,12 +11,12 @@ use borrow.Author.Tests.{leb-true, ltb-true, eqb-true, eqb-false}
 use Rattle.posit.proofs.Mirror.{power-wider}
 use Rattle.range.specs.Word.{tiles, startTile, endTile}
 use Rattle.range.specs.Member.{Real}
-use Rattle.range.specs.Plain.{isPlain}
+use Rattle.range.specs.Plain.{isPlain, PlainEnd}
 use Rattle.range.specs.Across.{isAcross}
 use Rattle.range.specs.Spread.{isSpread}
 use Rattle.range.proofs.OneSigned.{first-of, second-of}
-use Rattle.range.proofs.PlainCells.{plain-tiles, real-of-plain}
-use Rattle.range.proofs.AcrossCells.{real-of-across}
+use Rattle.range.proofs.PlainCells.{plain-tiles, plain-end, real-of-plain}
+use Rattle.range.proofs.AcrossCells.{across-tiles, upper, real-of-across}
 
 -- ---- one of the two
 either : (p q : Bool) → (p || q) ≡ true → (p ≡ true) ⊎ (q ≡ true)
@@ -72,3 +72,10 @@ real-of-spread n w wide h = by (spread-by n w h)
     by : (isPlain n w ≡ true) ⊎ (isAcross n w ≡ true) → Real n w
     by (inl p) = real-of-plain n w wide p
     by (inr q) = real-of-across n w wide q
+
+pub spread-end : (n w : ℕ) → 3 ≤ n → isSpread n w ≡ true → PlainEnd n (endTile n w)
+spread-end n w wide h = by (spread-by n w h)
+  where
+    by : (isPlain n w ≡ true) ⊎ (isAcross n w ≡ true) → PlainEnd n (endTile n w)
+    by (inl p) = plain-end (plain-tiles n w p)
+    by (inr q) = upper n wide (across-tiles n w q)

@@ -5,8 +5,8 @@ use mathlib.Core.Bool.{Bool, true, false}
 use mathlib.Core.Logic.{_⊎_, inl, inr}
 use Prim.Native.Nat.{ℕ, zero, suc, _+_, _-_, _*_, _/_, _%_, _^_, _≤_, _<_}
 use native.Mathlib.Omega.{arith}
-use lib.IntN.{pos}
 use lib.Dec.{leb}
+use lib.IntN.{pos}
 use mir.Val.{boolByte}
 use borrow.Author.Tests.{le-leb, lt-leb}
 use Rattle.exact.specs.Fraction.{Fraction, _≈_, whole, _+ᶠ_}
@@ -20,18 +20,18 @@ use Rattle.bound.specs.End.{read-start, read-end}
 use Rattle.posit.specs.Format as Spec
 use Rattle.posit.specs.Format.{Format}
 use Rattle.posit.specs.Parts.{chosenBy}
-use Rattle.posit.specs.Value.{value}
+use Rattle.posit.specs.Value.{value, multiple}
 use Rattle.posit.specs.Magnitudes.{withSignᶠ}
 use Rattle.posit.proofs.Patterns.{some-bit}
 use Rattle.posit.proofs.Operated.{zero-value}
 use Rattle.posit.proofs.Summed.{sign-twice}
-use Rattle.posit.proofs.Mirror.{nar-is-half, power-wider, Side, below, above, side, negated-positive, value-above}
-use Rattle.code.specs.declared.inner.coded.Coded.{Coded}
+use Rattle.posit.proofs.Mirror.{nar-is-half, power-wider, Side, below, above, side, negated-positive, units-below, units-above, value-above}
 use Rattle.code.specs.declared.inner.sum.SignedSum.{SignedSum}
 use Rattle.code.specs.declared.inner.sum.SignedSum.the-variants.{Nothing, Something}
 use Rattle.code.specs.Code.{codeValue, CodeOf}
 use Rattle.code.specs.Coded.{Codes, IsSignedSum}
 use Rattle.code.specs.Step.{StepOf}
+use Rattle.code.proofs.Summed.{none-over}
 use Rattle.range.specs.declared.inner.signed.Signed.{Signed}
 use Rattle.range.specs.Numbered.{count, patternAt, numberOf, valueAt}
 use Rattle.range.specs.Spans.{topCell}
@@ -70,7 +70,7 @@ module _ {n es p half turned : ℕ} (f : Format n es) (g : Spec.Finite n p) (mor
   pub signed-of : {m x : ℕ} → m ≡ size → CodeOf n es m x → SignedOf n es p (record { negative = leb half p; size = x })
   signed-of {m} {x} e k = record { code = k .code; says = by (side g) }
     where
-      by : Side n p → withSignᶠ (leb half p) (codeValue 14 es x) ≈ value n es p
+      by : Side n p → withSignᶠ (leb half p) (codeValue 52 x) ≈ value n es p
       by (below h) = rw (lt-leb half p (omega arith)) (rw (e ∙ positive h) at (k .says))
       by (above h u) =
           rw (le-leb half p (omega arith), value-above n es (some-bit n (f .wide-enough)) h u) (negᶠ-cong (rw (e ∙ negative h) at (k .says)))
@@ -79,9 +79,6 @@ module _ {n es p half turned : ℕ} (f : Format n es) (g : Spec.Finite n p) (mor
 module _ {n es : ℕ} (f : Format n es) where
   even : 2 ^ n ≡ 2 * Spec.nar n
   even = nar-is-half n (some-bit n (f .wide-enough))
-
-  pub below-finite : {p : ℕ} → p < Spec.nar n → Spec.Finite n p
-  below-finite h = record { fits = omega (arith, even); not-nar = omega arith }
 
   module _ {p : ℕ} (h : Spec.nar n < p) (u : p < 2 ^ n) where
     pub above-finite : Spec.Finite n p
@@ -94,6 +91,12 @@ module _ {n es : ℕ} (f : Format n es) where
     across-signed {all} {x} e k =
         let turned : Spec.negated n p ≡ all - p = negated-positive n {p = p} (omega arith) u ∙ omega arith in
         record { code = k .code; says = rw (value-above n es (some-bit n (f .wide-enough)) h u, turned) (negᶠ-cong (k .says)) }
+
+    -- the posit on the other side takes it away
+    pub opposite : {q : ℕ} → 2 ^ n - p ≡ q → (value n es p +ᶠ value n es q) ≈ whole (pos 0)
+    opposite {q} e =
+        let units = multiple (n - 1) es q in
+        rw (units-above n es {p = p} h u, e, units-below n es {p = q} (omega (arith, even))) (none-over (Spec.m n es) units units true refl)
 
 pub above-signed : {n es q y : ℕ} → CodeOf n es q y → SignedOf n es q (record { negative = false; size = y })
 above-signed k = record { code = k .code; says = k .says }
@@ -111,13 +114,13 @@ module _ (n es : ℕ) (wide : 3 ≤ n) where
   zero-right {p} f e h = h ∙ sym (cell-of-posit n es wide f (+ᶠ-cong (≈-refl (value n es p)) (zero-value n es e) ⨾ +ᶠ-idr (value n es p)))
 
   pub signed-sum : {p q : ℕ} {x y : Signed} → SignedOf n es p x → SignedOf n es q y
-      → cellOf n es (withSignᶠ (x .negative) (codeValue 14 es (x .size)) +ᶠ withSignᶠ (y .negative) (codeValue 14 es (y .size))) ≡ cellOf n es (value n es p +ᶠ value n es q)
+      → cellOf n es (withSignᶠ (x .negative) (codeValue 52 (x .size)) +ᶠ withSignᶠ (y .negative) (codeValue 52 (y .size))) ≡ cellOf n es (value n es p +ᶠ value n es q)
   signed-sum i j = cell-same n es wide (+ᶠ-cong (i .says) (j .says))
 
   pub cell-small : (z : Fraction) {c : ℕ} → n ≤ 16 → c ≡ cellOf n es z → c ≤ 131070
   cell-small z h e = omega (arith, cell-bounded n es wide z, power-wider n, half-small h)
 
-module _ {n es : ℕ} (f : Format n es) (z : Fraction) {r : SignedSum} (k : IsSignedSum es z r) {b : Bool} {x : Coded} (e : r ≡ Something b x) where
+module _ {n es : ℕ} (f : Format n es) (z : Fraction) {r : SignedSum} (k : IsSignedSum es z r) {b : Bool} {x : ℕ} (e : r ≡ Something b x) where
   pub something-known : Codes es (withSignᶠ b z) x
   something-known = subst (λ r. IsSignedSum es z r) e k
 

@@ -5,10 +5,10 @@ use native.Mathlib.Omega.{arith}
 use native.Mathlib.Decide.{decLe}
 use lib.IntN.{pos}
 use lib.Pow.{pow-pos}
-use Rattle.exact.specs.Fraction.{Fraction, _≈_, whole}
+use Rattle.exact.specs.Fraction.{Fraction, _≈_, _<ᶠ_, whole}
 use Rattle.bound.specs.Order.{Less}
 use Rattle.bound.specs.Cell.{Cell, cell}
-use Rattle.bound.specs.Fractions.{fractions, same-of-≈}
+use Rattle.bound.specs.Fractions.{fractions, same-of-≈, less-of-<ᶠ}
 use Rattle.bound.proofs.Cell.{value-cell, same-cell, cell-is-cell, monotone}
 use Rattle.posit.specs.Format.{nar, Finite}
 use Rattle.posit.proofs.Ends.{value-zero}
@@ -18,7 +18,7 @@ use Rattle.range.specs.Numbered.{numberOf, valueAt}
 use Rattle.range.specs.Computed.{cellOf}
 use Rattle.range.specs.Signs.{zeroCell}
 use Rattle.range.proofs.Grid.{posits, number-below, number-fits, value-of-number, nar-positive}
-use Rattle.range.proofs.Computed.{cell-of-is}
+use Rattle.range.proofs.Computed.{cell-computed, cell-of-is}
 use Rattle.range.proofs.CellFrom.{cell-same}
 
 module _ (n es : ℕ) (wide : 3 ≤ n) where
@@ -57,6 +57,9 @@ module _ (n es : ℕ) (wide : 3 ≤ n) where
       go (no h) =
           let k = cell-is-cell (posits n es wide) x .to-value (numberOf n 0) (number-fits n (some-bit n wide) zero-finite) .1 (omega (arith, zero-place)) in
           absurd (l (fractions .transitive k (same-of-≈ zero-is .0)))
+
+  pub above-cell : {x : Fraction} → whole (pos 0) <ᶠ x → 2 ^ n ≤ cellOf n es x
+  above-cell {x} h = rw (cell-computed n es wide x) (above-zero (less-of-<ᶠ h))
 
   pub zero-below : {x : Fraction} → 2 ^ n ≤ cell (posits n es wide) x → Less fractions (whole (pos 0)) x
   zero-below {x} h l =

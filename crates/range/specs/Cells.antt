@@ -13,6 +13,7 @@ use Rattle.posit.specs.Magnitudes.{Within, withSignᶠ}
 use Rattle.code.specs.Code.{IsCode, codeValue}
 use Rattle.posit.specs.declared.inner.magnitude.Magnitude.{Magnitude}
 use Rattle.range.specs.declared.inner.signed.Signed.{Signed}
+use Rattle.range.specs.Word.{tiles}
 use Rattle.range.specs.Numbered.{count, valueAt}
 use Rattle.range.specs.declared.inner.span.Span.{Span}
 use Rattle.range.specs.Spans.{topCell, noCells}
@@ -36,15 +37,15 @@ abbrev pub cellWithSign : ℕ → Bool → ℕ → ℕ
 cellWithSign n true c = topCell n - c
 cellWithSign n false c = c
 
+-- the tile of a step above 0, or that of the negative
+abbrev pub tileWithSign : ℕ → Bool → ℕ → ℕ
+tileWithSign n true step = tiles n - step
+tileWithSign n false step = step
+
 -- a finite posit other than 0 as a sign and the code of its size
 pub record SignedOf (n es p : ℕ) (r : Signed) : Type 0 where
   pub code : IsCode es (r .size)
-  pub says : withSignᶠ (r .negative) (codeValue 14 es (r .size)) ≈ value n es p
-
--- the cells of the sum of p and q and of the sum of r and s
-pub record Totals (n es p q r s : ℕ) (t : Span) : Type 0 where
-  pub first : t .lo ≡ cellOf n es (value n es p +ᶠ value n es q)
-  pub last : t .hi ≡ cellOf n es (value n es r +ᶠ value n es s)
+  pub says : withSignᶠ (r .negative) (codeValue 52 (r .size)) ≈ value n es p
 
 -- ---- sums: the bounds that stand at a start and at an end cell, and the outermost cells of all sums between them
 abbrev pub startAt : ℕ → ℕ → ℕ → Bound Fraction

@@ -1,62 +1,58 @@
-// The code of a posit above 0: fourteen digits behind the first.
+// The code of a posit above 0: the bits of the double that it is.
 ghost use mathlib.Core.Path.{_≡_};
-ghost use mathlib.Core.Bool.{true, false, cond};
-ghost use Prim.Native.Nat.{_+_, _-_, _*_, _^_, _<_, _≤_};
+ghost use Prim.Native.Nat.{_+_, _-_, _*_, _/_, _%_, _^_, _<_, _≤_};
 ghost use Rattle.posit.specs.Format as Spec;
 ghost use Rattle.posit.specs.Format.{Format};
-ghost use Rattle.code.specs.Code.{CodeOf, digitsIn};
-use super::double::EXPONENT;
+ghost use Rattle.code.specs.Code.{CodeOf};
 use posit::inner::power::power;
 use posit::inner::power::power32;
+use std::num::wrapping_add_u64;
+use std::num::wrapping_sub_u64;
 
-// With the width added, what a double's exponent is taken from where the run is of ones, and what is taken from it where it is of zeros.
-const UP: u64 = 1085;
+// A double's digits behind the first, and the first place of its exponent.
+const DIGITS: u32 = 52;
 
-const DOWN: u64 = 957;
+pub const UNIT: u64 = 0x10_0000_0000_0000;
 
-// Moved down by so many places less the exponent size, a double's digits are fourteen behind the exponent.
-const TO_DIGITS: u32 = 38;
+// The exponent of 1.
+pub const BIAS: u64 = 1023;
 
-pub const UNIT: u64 = 0x4000;
+// With the width added, the exponent of the whole number that the pattern of 1 is folded to.
+const ONE: u64 = 1022;
 
-// The pattern, or how far it is from NaR's where the run is of ones: its highest bit tells how long the run is.
-fn folded(half: u32, ones: bool, m: u32) -> u32
-    requires { ⌜ m ≤ half ⌝ }
-    ensures { λ r. ⌜ r ≡ cond ones (half - m) m ⌝ }
+// A double's sign.
+pub const SIGN: u64 = 0x8000_0000_0000_0000;
+
+// Behind a run of zeros a code lies as far below that of 1 as the bits lie below those of 1's whole number, stretched by the exponent size: so much is taken
+// from the stretched bits.
+fn zeros_from(n: u32, es: u32) -> u64
+    requires { ⌜ (3 ≤ n) × (n ≤ 16) × (es ≤ 2) ⌝ }
+    ensures { λ r. ⌜ r ≡ ((1022 + n) * 2 ^ es - 1023) * 2 ^ 52 ⌝ }
 {
-    if ones {
-        return half - m;
-    }
-    m
+    ((ONE + n as u64) * power(es) - BIAS) * UNIT
 }
 
-// Regime and tail as one number by the bits of a double: the regime is counted from -64 and stands where the double has its exponent.
-fn unfolded(n: u32, ones: bool, bits: u64) -> u64
-    requires { ⌜ (n ≤ 16) × (ones ≡ true → bits ≤ (1085 + n) * 2 ^ 52) × (ones ≡ false → (957 + n) * 2 ^ 52 ≤ bits) ⌝ }
-    ensures { λ r. ⌜ r ≡ cond ones ((1085 + n) * 2 ^ 52 - bits) (bits - (957 + n) * 2 ^ 52) ⌝ }
+// Behind a run of ones it lies as far above: from so much the stretched bits are taken, with their sign, which was moved up too.
+fn ones_from(n: u32, es: u32) -> u64
+    requires { ⌜ (3 ≤ n) × (n ≤ 16) × (es ≤ 2) ⌝ }
+    ensures { λ r. ⌜ r ≡ (((1022 + n) * 2 ^ es + 1023) * 2 ^ 52 + 2 ^ 63 * 2 ^ es) % 2 ^ 64 ⌝ }
 {
-    let up = (UP + n as u64) * EXPONENT;
-    let down = (DOWN + n as u64) * EXPONENT;
-    if ones {
-        return up - bits;
-    }
-    bits - down
+    wrapping_add_u64(((ONE + n as u64) * power(es) + BIAS) << DIGITS, SIGN << es)
 }
 
-// The code of the posit m. A double made of a whole number has its highest bit and the digits behind it in their places.
+// Twice the pattern, or with a run of ones how far that is below NaR's, as a number below 0: its highest bit tells how long the run is. The double made of it has
+// that bit as its exponent and the tail behind it.
 pub fn code_of(n: u32, es: u32, m: u32) -> u64
     requires { ⌜ (Format n es) × (0 < m) × (m < Spec.nar n) ⌝ }
     ensures { λ r. ⌜ CodeOf n es m r ⌝ }
 {
-    let half = power32(n - 1);
-    let ones = half / 2 <= m;
-    let bits = f64::to_bits(folded(half, ones, m) as f64);
-    unfolded(n, ones, bits) / power(TO_DIGITS - es)
-}
-
-// The fifteen digits of a code.
-pub fn digits(c: u64) -> u64
-    ensures { λ r. ⌜ r ≡ digitsIn 14 c ⌝ }
-{
-    UNIT + c % UNIT
+    let ones = power32(n - 1);
+    let folded = (2 * m ^ ones) as i32 - ones as i32;
+    let bits = f64::to_bits(folded as f64) << es;
+    let behind_ones = wrapping_sub_u64(ones_from(n, es), bits);
+    let behind_zeros = wrapping_sub_u64(bits, zeros_from(n, es));
+    if folded < 0 {
+        return behind_ones;
+    }
+    behind_zeros
 }

@@ -1,29 +1,15 @@
-// The quotient of two magnitudes by their codes, with a mark for its remainder.
+// The quotient of two magnitudes by their codes: a double has its first 53 digits, the last of them rounded, and forty of them tell where it lies.
 ghost use Prim.Native.Nat.{_≤_};
 ghost use Rattle.exact.specs.Fraction.{_/ᶠ_};
 ghost use Rattle.code.specs.Code.{IsCode, codeValue};
 ghost use Rattle.code.specs.Coded.{Codes};
-use super::coded::Coded;
-use super::coded::code_from;
-use super::form::UNIT;
-use super::form::digits;
-use posit::inner::power::power;
 
-// Zero digits put below the dividend's: the quotient then has 29 or 30.
-const SPARE: u64 = 0x2000_0000;
+// Twelve of the 52 digits behind the first are cut off.
+const CUT: u64 = 0x1000;
 
-// Scales are counted from so many regimes below 1, which a difference of two has lost.
-const REGIMES: u64 = 64;
-
-pub fn quotient(es: u32, x: u64, y: u64) -> Coded
+pub fn quotient(es: u32, x: u64, y: u64) -> u64
     requires { ⌜ (es ≤ 2) × (IsCode es x) × (IsCode es y) ⌝ }
-    ensures { λ r. ⌜ Codes es (codeValue 14 es x /ᶠ codeValue 14 es y) r ⌝ }
+    ensures { λ r. ⌜ Codes es (codeValue 52 x /ᶠ codeValue 52 y) r ⌝ }
 {
-    let dividend = digits(x) * SPARE;
-    let divisor = digits(y);
-    let scale = x / UNIT + REGIMES * power(es) - 1 - y / UNIT;
-    Coded {
-        code: code_from(scale, dividend / divisor),
-        lost: dividend % divisor != 0,
-    }
+    f64::to_bits(f64::from_bits(x) / f64::from_bits(y)) / CUT * CUT
 }

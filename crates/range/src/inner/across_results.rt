@@ -1,24 +1,25 @@
-// Sums, products and quotients of a range from a posit below 0 to one above 0 with a plain one: each end of the answer is the cell of one
+// Products and quotients of a range from a posit below 0 to one above 0 with a plain one, and the start of their sums: each end of the answer is the cell of one
 // exact result.
 ghost use mathlib.Core.Path.{_≡_};
 ghost use mathlib.Core.Bool.{true};
-ghost use Prim.Native.Nat.{_+_, _-_, _*_, _%_, _<_, _≤_};
+ghost use Prim.Native.Nat.{_+_, _^_, _<_, _≤_};
 ghost use Rattle.posit.specs.Format.{Format};
 ghost use Rattle.range.specs.Across.{isAcross};
+ghost use Rattle.range.specs.Cells.{sumStart, tileWithSign};
 ghost use Rattle.range.specs.Computed.{answerOf};
-ghost use Rattle.range.specs.Plain.{isPlain};
-ghost use Rattle.range.specs.Spans.{topCell, startTileAt, turnedTile};
+ghost use Rattle.range.specs.Plain.{isPlain, PlainStart};
+ghost use Rattle.range.specs.Spans.{startCell, startTileAt, turnedTile};
 ghost use Rattle.range.specs.Word.{tiles};
-use super::add::across_cell;
-use super::add::total_cell;
 use super::plain::OPEN_ZERO;
 use super::plain_results::end_tile_from;
 use super::positive::product_cell;
 use super::positive::quotient_cell;
 use super::span::joined;
-use super::span::start_tile_at;
 use super::word::end_tile;
 use super::word::start_tile;
+use code::inner::form::code_of;
+use code::inner::step::step_of;
+use code::inner::sum::difference;
 use posit::inner::power::power32;
 
 // A tile with its posit negated, where that is not 0.
@@ -29,32 +30,35 @@ fn negated_tile(n: u32, tile: u32) -> u32
     2 * power32(n) - tile + 2 * (tile % 2)
 }
 
-// The start tile of the sums from the tiles s and t on, by the cell of their exact sum: that cell's, or the gap's above it unless both are
-// closed.
-fn across_start_tile(n: u32, s: u32, t: u32, cell: u32) -> u32
-    requires { ⌜ (3 ≤ n) × (n ≤ 16) × (cell ≤ topCell n) ⌝ }
-    ensures { λ r. ⌜ r ≡ startTileAt n (cell + cell % 2 * (1 - (1 - s % 2) * (1 - t % 2))) ⌝ }
+// The start tile of a number other than 0 from the step of its size among the posits: below 0 it is that far before the tile of 0.
+fn signed_tile(n: u32, negative: bool, step: u32) -> u32
+    requires { ⌜ (n ≤ 16) × (step < 2 ^ n) ⌝ }
+    ensures { λ r. ⌜ r ≡ tileWithSign n negative step ⌝ }
 {
-    let open = 1 - (1 - s % 2) * (1 - t % 2);
-    start_tile_at(n, cell + cell % 2 * open)
+    let below = 2 * power32(n) - step;
+    if negative {
+        return below;
+    }
+    step
 }
 
-// From the sum of both starts to the sum of both ends.
-pub fn across_sum(n: u32, es: u32, a: u64, b: u64) -> u64
-    requires { ⌜ (Format n es) × (isAcross n a ≡ true) × (isPlain n b ≡ true) ⌝ }
-    ensures { λ r. ⌜ r ≡ answerOf n es 0 a b ⌝ }
+// The start tile of the sums from the tile s, of a posit below 0, and the tile t on: beyond an open 0 they start at s, open, and else at the exact sum of
+// both posits, open where either tile is.
+pub fn across_start(n: u32, es: u32, s: u32, t: u32) -> u32
+    requires { ⌜ (Format n es) × (2 ^ n + 2 ≤ s) × (s < tiles n) × (PlainStart n t) ⌝ }
+    ensures { λ r. ⌜ r ≡ startTileAt n (sumStart n es (startCell n s) (startCell n t)) ⌝ }
 {
-    let s = start_tile(n, a);
-    let t = start_tile(n, b);
-    let u = end_tile(n, a);
-    let v = end_tile(n, b);
-    let lo = across_cell(n, es, s / 2, t / 2);
-    let hi = total_cell(n, es, u / 2, v / 2);
-    joined(
-        n,
-        across_start_tile(n, s, t, lo),
-        end_tile_from(n, u, v, hi),
-    )
+    if t == OPEN_ZERO {
+        return s | 1;
+    }
+    let open = (s | t) % 2;
+    let p = (2 * power32(n) + 1 - s) / 2;
+    let q = t / 2;
+    if p == q {
+        return open;
+    }
+    let size = difference(es, code_of(n, es, q), code_of(n, es, p));
+    signed_tile(n, q < p, step_of(n, es, size)) | open
 }
 
 // From the start times the end of b to the product of both ends; the first is the negative of the product of their sizes.

@@ -1,17 +1,15 @@
 // The sum and the difference of two real ranges.
 ghost use mathlib.Core.Path.{_≡_};
-ghost use Prim.Native.Nat.{_+_, _*_, _^_, _<_, _≤_};
+ghost use Prim.Native.Nat.{_+_, _*_, _<_, _≤_};
 ghost use Rattle.exact.specs.Fraction.{_+ᶠ_};
 ghost use Rattle.posit.specs.Format as Spec;
 ghost use Rattle.posit.specs.Format.{Format, Finite};
 ghost use Rattle.posit.specs.Value.{value};
-ghost use Rattle.code.specs.Code.{IsCode, codeValue};
-ghost use Rattle.code.specs.Double.{Near};
 ghost use Rattle.range.specs.Numbered.{numberOf};
 ghost use Rattle.range.specs.Member.{Real};
 ghost use Rattle.range.specs.Spans.{topCell, cellsOf, mirrored, Cells, wordAt};
 ghost use Rattle.range.specs.Computed.{cellOf, answerOf};
-ghost use Rattle.range.specs.Cells.{sumStart, sumEnd, sumCells, Totals};
+ghost use Rattle.range.specs.Cells.{sumStart, sumEnd, sumCells};
 use super::cell::above_zero;
 use super::cell::end_posit;
 use super::cell::start_posit;
@@ -23,13 +21,11 @@ use super::span::top_cell;
 use super::span::word_of;
 use super::turn::turned;
 use super::word::cells_of;
-use code::inner::double::is_far;
 use code::inner::form::code_of;
 use code::inner::step::step_of;
 use code::inner::sum::SignedSum;
-use code::inner::sum::near_sum;
 use code::inner::sum::signed_sum;
-use code::inner::total::near_total;
+use code::inner::sum::total;
 use posit::inner::power::power32;
 
 // The cell of a finite posit alone.
@@ -63,81 +59,15 @@ fn sum_cell(n: u32, es: u32, p: u32, q: u32) -> u32
     }
 }
 
-// The cell of the exact sum of two magnitudes by their codes, whose scales are near.
-fn near_cell(n: u32, es: u32, x: u64, y: u64) -> u32
-    requires { ⌜ (Format n es) × (IsCode es x) × (IsCode es y) × (Near x y) ⌝ }
-    ensures { λ r. ⌜ r ≡ cellOf n es (codeValue 14 es x +ᶠ codeValue 14 es y) ⌝ }
-{
-    above_zero(n, step_of(n, es, near_total(es, x, y)))
-}
-
-// The cell of the exact sum of two posits above 0; scales far apart go the general way.
+// The same of two posits above 0.
 pub fn total_cell(n: u32, es: u32, p: u32, q: u32) -> u32
     requires { ⌜ (Format n es) × (0 < p) × (p < Spec.nar n) × (0 < q) × (q < Spec.nar n) ⌝ }
     ensures { λ r. ⌜ r ≡ cellOf n es (value n es p +ᶠ value n es q) ⌝ }
 {
-    let x = code_of(n, es, p);
-    let y = code_of(n, es, q);
-    if is_far(x, y) {
-        return sum_cell(n, es, p, q);
-    }
-    near_cell(n, es, x, y)
-}
-
-// The cells of two such sums, the general way.
-fn general_totals(n: u32, es: u32, p: u32, q: u32, r: u32, s: u32) -> Span
-    requires { ⌜ (Format n es) × (Finite n p) × (Finite n q) × (Finite n r) × (Finite n s) ⌝ }
-    ensures { λ t. ⌜ Totals n es p q r s t ⌝ }
-{
-    Span {
-        lo: sum_cell(n, es, p, q),
-        hi: sum_cell(n, es, r, s),
-    }
-}
-
-// The cells of two such sums, of both starts and of both ends of two ranges.
-pub fn totals(n: u32, es: u32, p: u32, q: u32, r: u32, s: u32) -> Span
-    requires { ⌜ (Format n es) × (0 < p) × (p < Spec.nar n) × (0 < q) × (q < Spec.nar n) ⌝ }
-    requires { ⌜ (0 < r) × (r < Spec.nar n) × (0 < s) × (s < Spec.nar n) ⌝ }
-    ensures { λ t. ⌜ Totals n es p q r s t ⌝ }
-{
-    let x = code_of(n, es, p);
-    let y = code_of(n, es, q);
-    let z = code_of(n, es, r);
-    let w = code_of(n, es, s);
-    if is_far(x, y) {
-        return general_totals(n, es, p, q, r, s);
-    }
-    if is_far(z, w) {
-        return general_totals(n, es, p, q, r, s);
-    }
-    Span {
-        lo: near_cell(n, es, x, y),
-        hi: near_cell(n, es, z, w),
-    }
-}
-
-// The same of a posit below 0 and one that is not.
-pub fn across_cell(n: u32, es: u32, p: u32, q: u32) -> u32
-    requires { ⌜ (Format n es) × (Spec.nar n < p) × (p < 2 ^ n) × (q < Spec.nar n) ⌝ }
-    ensures { λ r. ⌜ r ≡ cellOf n es (value n es p +ᶠ value n es q) ⌝ }
-{
-    if q == 0 {
-        return posit_cell(n, p);
-    }
-    let x = code_of(n, es, power32(n) - p);
-    let y = code_of(n, es, q);
-    if is_far(x, y) {
-        return sum_cell(n, es, p, q);
-    }
-    match near_sum(es, true, x, false, y) {
-        SignedSum::Nothing => power32(n) - 1,
-        SignedSum::Something { negative, size } => with_sign(
-            n,
-            negative,
-            above_zero(n, step_of(n, es, size)),
-        ),
-    }
+    above_zero(
+        n,
+        step_of(n, es, total(es, code_of(n, es, p), code_of(n, es, q))),
+    )
 }
 
 // The first cell of all sums of a number from the start cell x up and one from y up: a posit where both are, else a gap.

@@ -9,10 +9,8 @@ ghost use Rattle.range.specs.Cells.{sumStart, sumEnd};
 ghost use Rattle.range.specs.Computed.{answerOf};
 ghost use Rattle.range.specs.Plain.{isPlain, PlainStart, PlainEnd};
 ghost use Rattle.range.specs.Signs.{startEdge, endEdge, firstCell, lastCell};
-ghost use Rattle.range.specs.Word.{wordOf};
 ghost use Rattle.range.specs.Spans.{topCell, startCell, endCell, startTileAt, endTileAt};
 use super::add::total_cell;
-use super::add::totals;
 use super::plain::OPEN_ZERO;
 use super::positive::product_cell;
 use super::positive::quotient_cell;
@@ -43,7 +41,7 @@ pub fn end_tile_from(n: u32, s: u32, t: u32, cell: u32) -> u32
 }
 
 // The start tile of the sums from the tiles s and t on: beyond an open 0 they start at the other tile, open.
-fn sum_start_tile(n: u32, es: u32, s: u32, t: u32) -> u32
+pub fn sum_start_tile(n: u32, es: u32, s: u32, t: u32) -> u32
     requires { ⌜ (Format n es) × (PlainStart n s) × (PlainStart n t) ⌝ }
     ensures { λ r. ⌜ r ≡ startTileAt n (sumStart n es (startCell n s) (startCell n t)) ⌝ }
 {
@@ -57,7 +55,7 @@ fn sum_start_tile(n: u32, es: u32, s: u32, t: u32) -> u32
 }
 
 // The end tile of the sums up to the tiles u and v.
-fn sum_end_tile(n: u32, es: u32, u: u32, v: u32) -> u32
+pub fn sum_end_tile(n: u32, es: u32, u: u32, v: u32) -> u32
     requires { ⌜ (Format n es) × (PlainEnd n u) × (PlainEnd n v) ⌝ }
     ensures { λ r. ⌜ r ≡ endTileAt n (sumEnd n es (endCell n u) (endCell n v)) ⌝ }
 {
@@ -106,37 +104,6 @@ fn quotient_end(n: u32, es: u32, u: u32, t: u32) -> u32
         return power32(n) + 1;
     }
     end_tile_from(n, u, t, quotient_cell(n, es, u / 2, t / 2))
-}
-
-// The word of the sums from the tiles s and t on up to the tiles u and v.
-fn sum_word(n: u32, es: u32, s: u32, t: u32, u: u32, v: u32) -> u64
-    requires { ⌜ (Format n es) × (PlainStart n s) × (PlainStart n t) × (PlainEnd n u) × (PlainEnd n v) ⌝ }
-    ensures { λ r. ⌜ r ≡ wordOf n (startTileAt n (sumStart n es (startCell n s) (startCell n t))) (endTileAt n (sumEnd n es (endCell n u) (endCell n v))) ⌝ }
-{
-    joined(n, sum_start_tile(n, es, s, t), sum_end_tile(n, es, u, v))
-}
-
-// From the sum of both starts to the sum of both ends.
-pub fn plain_sum(n: u32, es: u32, a: u64, b: u64) -> u64
-    requires { ⌜ (Format n es) × (isPlain n a ≡ true) × (isPlain n b ≡ true) ⌝ }
-    ensures { λ r. ⌜ r ≡ answerOf n es 0 a b ⌝ }
-{
-    let s = start_tile(n, a);
-    let t = start_tile(n, b);
-    let u = end_tile(n, a);
-    let v = end_tile(n, b);
-    if s == OPEN_ZERO {
-        return sum_word(n, es, s, t, u, v);
-    }
-    if t == OPEN_ZERO {
-        return sum_word(n, es, s, t, u, v);
-    }
-    let cells = totals(n, es, s / 2, t / 2, u / 2, v / 2);
-    joined(
-        n,
-        start_tile_from(n, s, t, cells.lo),
-        end_tile_from(n, u, v, cells.hi),
-    )
 }
 
 // From the product of both starts to the product of both ends.

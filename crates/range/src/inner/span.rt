@@ -31,7 +31,7 @@ pub fn no_cells(n: u32) -> Span
 }
 
 // The start tile whose first cell is this one.
-pub fn start_tile_at(n: u32, cell: u32) -> u32
+fn start_tile_at(n: u32, cell: u32) -> u32
     requires { ⌜ (n ≤ 16) × (cell ≤ topCell n) ⌝ }
     ensures { λ r. ⌜ r ≡ startTileAt n cell ⌝ }
 {

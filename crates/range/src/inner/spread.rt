@@ -11,11 +11,15 @@ ghost use Rattle.range.specs.Spread.{isSpread};
 use super::across::is_across;
 use super::across_results::across_product;
 use super::across_results::across_quotient;
-use super::across_results::across_sum;
+use super::across_results::across_start;
 use super::plain::is_plain;
 use super::plain_results::plain_product;
 use super::plain_results::plain_quotient;
-use super::plain_results::plain_sum;
+use super::plain_results::sum_end_tile;
+use super::plain_results::sum_start_tile;
+use super::span::joined;
+use super::word::end_tile;
+use super::word::start_tile;
 use posit::inner::power::power;
 
 pub fn is_spread(n: u32, w: u64) -> bool
@@ -33,14 +37,18 @@ fn starts_below(n: u32, w: u64) -> bool
     w / power(n + 1) / power(n) % 2 == 1
 }
 
+// From the sum of both starts to the sum of both ends.
 pub fn spread_sum(n: u32, es: u32, a: u64, b: u64) -> u64
     requires { ⌜ (Format n es) × (isSpread n a ≡ true) × (isPlain n b ≡ true) ⌝ }
     ensures { λ r. ⌜ r ≡ answerOf n es 0 a b ⌝ }
 {
+    let s = start_tile(n, a);
+    let t = start_tile(n, b);
+    let end = sum_end_tile(n, es, end_tile(n, a), end_tile(n, b));
     if starts_below(n, a) {
-        return across_sum(n, es, a, b);
+        return joined(n, across_start(n, es, s, t), end);
     }
-    plain_sum(n, es, a, b)
+    joined(n, sum_start_tile(n, es, s, t), end)
 }
 
 pub fn spread_product(n: u32, es: u32, a: u64, b: u64) -> u64

@@ -1,7 +1,6 @@
 -- `range::inner::add::sum_cell` meets its contract: beside 0 the cell is that of the other posit, and else that of the exact sum (`SumCells`).
 use mathlib.Core.Path.{_∙_}
 use native.Mathlib.Omega.{arith}
-use lib.Pow.{pow-pos}
 use Rattle.range.proofs.SumCells.{zero-left, zero-right, nothing-cell, something-known, something-fits, something-small, something-cell, signed-sum}
 use borrow.Author.Needs.{needs}
 use Rattle.range.proofs.inner.add.sum_cell.Statement.{statement}
