@@ -51,3 +51,4 @@ pub mod SumTiles
 pub mod AcrossCells
 pub mod AcrossResults
 pub mod Spreading
+pub mod Faults

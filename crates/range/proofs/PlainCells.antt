@@ -1,17 +1,15 @@
 -- A plain word has the cells that its tiles name as they stand: no tile is turned past NaR, so the first cell is not after the last, and all cells lie
 -- above that of 0.
 use mathlib.Core.Path.{_≡_, refl, sym, ap, _∙_, subst}
-use mathlib.Core.Bool.{Bool, true, false, _&&_, true≢false}
-use mathlib.Core.Logic.{_≢_, _⊎_, inl, inr}
+use mathlib.Core.Bool.{Bool, true, false, _&&_}
+use mathlib.Core.Logic.{_≢_}
 use Prim.Native.Nat.{ℕ, _+_, _-_, _*_, _/_, _%_, _^_, _≤_, _<_}
-use native.Mathlib.Nat.{mod-eq-of-lt, mod-lt, lt-of-lt-of-le}
+use native.Mathlib.Nat.{mod-eq-of-lt}
 use native.Mathlib.Omega.{arith}
 use lib.IntN.{pos}
-use lib.Dec.{eqb, leb, ltb}
-use lib.Pow.{pow-pos, pow-mono, shr-lt, mod-pow-add}
-use borrow.Author.Tests.{ne-eqb, le-leb, lt-leb, lt-ltb, le-ltb, leb-true, ltb-true}
+use lib.Dec.{leb, ltb}
+use borrow.Author.Tests.{ne-eqb, le-leb, lt-leb, leb-true, ltb-true}
 use Rattle.exact.specs.Fraction.{whole}
-use Rattle.exact.proofs.Powers.{parity}
 use Rattle.posit.specs.Format.{Format, nar, Finite}
 use Rattle.posit.proofs.Mirror.{power-wider}
 use Rattle.posit.proofs.Patterns.{some-bit}
@@ -163,45 +161,3 @@ plain-no-zero {n} {es} w f h =
     ∙ ap (hasZero n) (plain-cells n w wide h)
     ∙ ap (λ (b : Bool). b && leb (zeroCell n) (lastOf n (endTile n w)))
     (lt-leb (firstOf n (startTile n w)) (zeroCell n) (omega (arith, plain-tiles n w h)))
-
--- ---- the test as the machine makes it
-pub start-tile-room : (n : ℕ) {w all : ℕ} → w < 2 ^ 64 → all ≡ tiles n → w / all < 2 ^ 63
-start-tile-room n h e = rw e (shr-lt 63 (n + 1) (lt-of-lt-of-le h (pow-mono {i = 64} {j = 63 + (n + 1)} (omega arith))))
-
--- the last bit above the n lower ones says in which half of the tiles the end is
-upper-half : (n w : ℕ) → eqb (w / 2 ^ n % 2) 0 ≡ ltb (endTile n w) (2 ^ n)
-upper-half n w = by (parity (w / 2 ^ n))
-  where
-    parts : endTile n w ≡ w / 2 ^ n % 2 * 2 ^ n + w % 2 ^ n
-    parts = ap (λ (k : ℕ). w % 2 ^ k) {x = n + 1} {y = 1 + n} (omega arith) ∙ mod-pow-add w 1 n
-
-    rest : w % 2 ^ n < 2 ^ n
-    rest = mod-lt w (pow-pos n)
-
-    by : (w / 2 ^ n % 2 ≡ 0) ⊎ (w / 2 ^ n % 2 ≡ 1) → eqb (w / 2 ^ n % 2) 0 ≡ ltb (endTile n w) (2 ^ n)
-    by (inl e) = rw e (sym (lt-ltb (endTile n w) (2 ^ n) (omega (arith, rw e at parts, rest))))
-    by (inr e) = rw e (sym (le-ltb (endTile n w) (2 ^ n) (omega (arith, rw e at parts, rest))))
-
-third-decides : (x y z : Bool) {b : Bool} → b ≡ (x && y) → b ≡ true → z ≡ (x && (y && z))
-third-decides true true z e f = refl
-third-decides true false z e f = absurd (true≢false (sym f ∙ e))
-third-decides false y z e f = absurd (true≢false (sym f ∙ e))
-
-first-two-fail : (x y z : Bool) {b : Bool} → b ≡ (x && y) → b ≡ false → b ≡ (x && (y && z))
-first-two-fail true true z e f = absurd (true≢false (sym e ∙ f))
-first-two-fail true false z e f = e
-first-two-fail false y z e f = e
-
-module _ (s t : ℕ) {b : Bool} where
-  pub order-tested : 1 ≤ s → b ≡ leb (s + 2 * (t % 2)) t → b ≡ (leb 1 s && leb (s + 2 * (t % 2)) t)
-  order-tested h e = rw (le-leb 1 s h) e
-
-  pub start-refused : s < 1 → b ≡ leb 1 s → b ≡ (leb 1 s && leb (s + 2 * (t % 2)) t)
-  start-refused h e = e ∙ rw (lt-leb 1 s h)
-
-  module _ (e : b ≡ (leb 1 s && leb (s + 2 * (t % 2)) t)) (n w : ℕ) (i : s ≡ startTile n w) (j : t ≡ endTile n w) where
-    pub end-tested : {all : ℕ} → all ≡ 2 ^ n → b ≡ true → eqb (w / all % 2) 0 ≡ isPlain n w
-    end-tested {all} k f = third-decides (leb 1 s) (leb (s + 2 * (t % 2)) t) (eqb (w / all % 2) 0) e f ∙ rw (i, j, k, upper-half n w)
-
-    pub not-plain : b ≡ false → b ≡ isPlain n w
-    not-plain f = first-two-fail (leb 1 s) (leb (s + 2 * (t % 2)) t) (ltb t (2 ^ n)) e f ∙ rw (i, j)

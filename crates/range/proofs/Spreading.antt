@@ -59,13 +59,6 @@ module _ (n w : ℕ) where
         by (inl p) = p
         by (inr q) = absurd (eqb-false (startTile n w / 2 ^ n % 2) 1 (sym e ∙ t) (across-bit q))
 
--- ---- two tests, one after the other
-pub first-decides : {a p : Bool} (q : Bool) → a ≡ p → a ≡ true → a ≡ (p || q)
-first-decides q e t = t ∙ rw (sym e ∙ t)
-
-pub second-decides : {a b p q : Bool} → a ≡ p → a ≡ false → b ≡ q → b ≡ (p || q)
-second-decides e t f = f ∙ rw (sym e ∙ t)
-
 pub real-of-spread : (n w : ℕ) → 3 ≤ n → isSpread n w ≡ true → Real n w
 real-of-spread n w wide h = by (spread-by n w h)
   where

@@ -1,5 +1,4 @@
 // What the layers above use of the ranges beside the public calls; these functions may ask something of their caller.
-pub mod across;
 pub mod across_results;
 pub mod add;
 pub mod cell;

@@ -1,13 +1,14 @@
 -- Columns of ranges above 0, or across it on the left, pair by pair: they are real ranges, and those on the right are without 0, so that every test of every
 -- pair passes.
-use mathlib.Core.Path.{_≡_}
-use mathlib.Core.Bool.{true, not, _&&_}
+use mathlib.Core.Path.{_≡_, refl}
+use mathlib.Core.Bool.{Bool, true, false, not, _&&_}
 use mathlib.Core.Logic.{_≢_}
 use mathlib.Core.List.{List, [], _∷_}
-use Prim.Native.Nat.{ℕ, zero, suc, _+_, _≤_, _<_}
+use Prim.Native.Nat.{ℕ, zero, suc, _+_, _^_, _≤_, _<_}
 use native.Mathlib.Nat.{not-suc-le-zero, le-of-suc-le-suc}
 use native.Mathlib.Numerals.{add-one}
-use lib.Dec.{eqb}
+use lib.Bits.{bitOr}
+use lib.Dec.{eqb, ltb}
 use lib.ListN.{length, getD, drop, drop-of-length-le}
 use lib.Seq.{drop-cons}
 use borrow.Author.Tests.{eqb-false, not-true}
@@ -16,6 +17,7 @@ use Rattle.range.specs.Plain.{isPlain}
 use Rattle.range.specs.Spread.{isSpread}
 use Rattle.range.proofs.PlainCells.{real-of-plain, plain-no-zero}
 use Rattle.range.proofs.Spreading.{real-of-spread}
+use Rattle.range.proofs.Faults.{or-below}
 use Rattle.sheet.specs.Refusal.{holdsZero}
 use Rattle.sheet.specs.Accepted.{PairFits}
 use Rattle.sheet.specs.Column.{pairsTests}
@@ -24,16 +26,34 @@ use Rattle.sheet.proofs.Tests.{Passing, all-pass, passing-both}
 use Rattle.sheet.proofs.Verdicts.{both-parts}
 use Rattle.sheet.proofs.Pairs.{fits-pair}
 
+regrouped : (a b c d : Bool) → (a && (b && (c && d))) ≡ (((a && b) && c) && d)
+regrouped true true c d = refl
+regrouped true false c d = refl
+regrouped false b c d = refl
+
+and-true : (b : Bool) → (b && true) ≡ b
+and-true true = refl
+and-true false = refl
+
 -- ---- what is left after i pairs
 module _ (n : ℕ) where
-  pub plain-next : (i : ℕ) (left right : List ℕ) → i < length left → i < length right
+  plain-next : (i : ℕ) (left right : List ℕ) → i < length left → i < length right
       → allPlain n (drop i left) (drop i right) ≡ (isSpread n (getD left i 0) && (isPlain n (getD right i 0) && allPlain n (drop (i + 1) left) (drop (i + 1) right)))
   unfolding allPlain
   plain-next i left right hl hr = rw (add-one i, drop-cons left i 0 hl, drop-cons right i 0 hr, allPlain)
 
-  pub plain-end : (i : ℕ) (left right : List ℕ) → length left ≤ i → allPlain n (drop i left) right ≡ true
+  plain-end : (i : ℕ) (left right : List ℕ) → length left ≤ i → allPlain n (drop i left) right ≡ true
   unfolding allPlain
   plain-end i left right h = rw (drop-of-length-le left h)
+
+  -- ---- the faults of i pairs, joined
+  pub faults-next : (i f a b : ℕ) (left right : List ℕ) → i < length left → i < length right → ltb a (2 ^ 63) ≡ isSpread n (getD left i 0) → ltb b (2 ^ 63) ≡ isPlain n (getD right i 0)
+      → (ltb f (2 ^ 63) && allPlain n (drop i left) (drop i right)) ≡ (ltb (bitOr (bitOr f a) b) (2 ^ 63) && allPlain n (drop (i + 1) left) (drop (i + 1) right))
+  faults-next i f a b left right hl hr p q =
+      rw (plain-next i left right hl hr, ← p, ← q, or-below (bitOr f a) b, or-below f a) (regrouped (ltb f (2 ^ 63)) (ltb a (2 ^ 63)) (ltb b (2 ^ 63)) _)
+
+  pub faults-end : (i f : ℕ) (left right : List ℕ) → length left ≤ i → (ltb f (2 ^ 63) && allPlain n (drop i left) right) ≡ ltb f (2 ^ 63)
+  faults-end i f left right h = rw (plain-end i left right h) (and-true (ltb f (2 ^ 63)))
 
   -- ---- each pair
   pub plain-at : (left right : List ℕ) → allPlain n left right ≡ true → (i : ℕ) → i < length left → i < length right

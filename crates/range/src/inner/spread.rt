@@ -2,17 +2,16 @@
 ghost use mathlib.Core.Path.{_≡_};
 ghost use mathlib.Core.Bool.{true};
 ghost use Prim.Native.Nat.{_/_, _%_, _^_, _≤_};
-ghost use lib.Dec.{eqb};
+ghost use lib.Dec.{eqb, ltb};
 ghost use Rattle.posit.specs.Format.{Format};
 ghost use Rattle.range.specs.Word.{startTile};
 ghost use Rattle.range.specs.Computed.{answerOf};
 ghost use Rattle.range.specs.Plain.{isPlain};
 ghost use Rattle.range.specs.Spread.{isSpread};
-use super::across::is_across;
 use super::across_results::across_product;
 use super::across_results::across_quotient;
 use super::across_results::across_start;
-use super::plain::is_plain;
+use super::plain::FIRST_PLACE;
 use super::plain_results::plain_product;
 use super::plain_results::plain_quotient;
 use super::plain_results::sum_end_tile;
@@ -21,12 +20,26 @@ use super::span::joined;
 use super::word::end_tile;
 use super::word::start_tile;
 use posit::inner::power::power;
+use std::num::wrapping_add_u64;
+use std::num::wrapping_sub_u64;
 
-pub fn is_spread(n: u32, w: u64) -> bool
-    requires { ⌜ n ≤ 16 ⌝ }
-    ensures { λ r. ⌜ r ≡ isSpread n w ⌝ }
+// Below 2^63 exactly where a word is a range above 0 or across it, with limits. The start is counted from 0 with a sign.
+pub fn spread_fault(n: u32, w: u64) -> u64
+    requires { ⌜ (3 ≤ n) × (n ≤ 16) ⌝ }
+    ensures { λ r. ⌜ ltb r (2 ^ 63) ≡ isSpread n w ⌝ }
 {
-    is_plain(n, w) || is_across(n, w)
+    let half = power(n);
+    let all = power(n + 1);
+    let tile = w / all;
+    let start = wrapping_sub_u64(tile ^ half, half);
+    let open = w % 2;
+    // the end tile, less two where it is open: below 0 for an open 0
+    let end = wrapping_sub_u64(w % all - open, open);
+    wrapping_sub_u64(end, 1)
+        | wrapping_sub_u64(end, start)
+        | wrapping_add_u64(start, half - 2)
+        | wrapping_sub_u64(tile, 1)
+        | (w << (FIRST_PLACE - n))
 }
 
 // Whether the start lies below 0: the first bit of its tile is its posit's sign.

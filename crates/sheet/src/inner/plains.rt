@@ -11,8 +11,8 @@ ghost use Rattle.range.specs.Spread.{isSpread};
 ghost use Rattle.range.specs.Computed.{answerOf};
 ghost use Rattle.sheet.specs.Column.{answersOf};
 ghost use Rattle.sheet.specs.Plains.{allPlain, takesPlainWay};
-use range::inner::plain::is_plain;
-use range::inner::spread::is_spread;
+use range::inner::plain::plain_fault;
+use range::inner::spread::spread_fault;
 use range::inner::spread::spread_product;
 use range::inner::spread::spread_quotient;
 use range::inner::spread::spread_sum;
@@ -23,27 +23,26 @@ const SUBTRACT: u8 = 1;
 
 const MULTIPLY: u8 = 2;
 
-// Whether every left word lies above 0 or across it, and every right one above it.
+// The first number with the first bit of a word set.
+const FIRST: u64 = 0x8000_0000_0000_0000;
+
+// Whether every left word lies above 0 or across it, and every right one above it: all words are seen, and their faults joined, so that no test steers a jump.
 pub fn all_plain(n: u32, left: &[u64], right: &[u64]) -> bool
-    requires { ⌜ (n ≤ 16) × (length (now left) ≡ length (now right)) ⌝ }
+    requires { ⌜ (3 ≤ n) × (n ≤ 16) × (length (now left) ≡ length (now right)) ⌝ }
     ensures { λ r. ⌜ r ≡ allPlain n (now (left .entry)) (now (right .entry)) ⌝ }
 {
+    let mut faults: u64 = 0;
     let mut i: usize = 0;
     while i < left.len() {
-        if !is_spread(n, left[i]) {
-            return false;
-        }
-        if !is_plain(n, right[i]) {
-            return false;
-        }
+        faults = faults | spread_fault(n, left[i]) | plain_fault(n, right[i]);
         i += 1;
     }
-    true
+    faults < FIRST
 }
 
 // Whether the columns can be answered without a test of each pair; the difference of two ranges above 0 may have either sign.
 pub fn takes_plain_way(n: u32, op: u8, left: &[u64], right: &[u64]) -> bool
-    requires { ⌜ (n ≤ 16) × (length (now left) ≡ length (now right)) ⌝ }
+    requires { ⌜ (3 ≤ n) × (n ≤ 16) × (length (now left) ≡ length (now right)) ⌝ }
     ensures { λ r. ⌜ r ≡ takesPlainWay n op (now (left .entry)) (now (right .entry)) ⌝ }
 {
     op != SUBTRACT && all_plain(n, left, right)

@@ -76,7 +76,7 @@ returns c =
     writes-refused (says-first (columnLimits (a .n) (a .es) (a .op) (length (a .left .now)) (length (a .right .now)) (a .row) (length (a .lent .now))) _ (c .before .judge-columns .ensures) (c .if1 .taken)) (c .if1 .taken)
 
 takes-plain-way-requires : tie.Need-takes-plain-way-requires
-takes-plain-way-requires c κs = let f = fit c in (f .format .not-too-wide, f .as-long)
+takes-plain-way-requires c κs = let f = fit c in (f .format .wide-enough, f .format .not-too-wide, f .as-long)
 
 mul-write-plain : tie.Need-mul-write-plain
 mul-write-plain c =
