@@ -2,8 +2,8 @@
 
 use super::is_format;
 use super::range::operate;
-use super::tiles::{across_product, across_quotient, across_sum, is_across};
-use super::tiles::{is_plain, plain_product, plain_quotient, plain_sum};
+use super::tiles::{across_product, across_quotient};
+use super::tiles::{plain_fault, plain_product, plain_quotient, spread_fault, spread_sum};
 
 const ADD: u8 = 0;
 const SUBTRACT: u8 = 1;
@@ -33,8 +33,11 @@ pub fn combine(n: u32, es: u32, op: u8, left: &[u64], right: &[u64], lent: &mut 
 }
 
 fn all_plain(n: u32, left: &[u64], right: &[u64]) -> bool {
-    let mut pairs = left.iter().zip(right);
-    pairs.all(|(a, b)| (is_plain(n, *a) || is_across(n, *a)) && is_plain(n, *b))
+    let mut faults = 0;
+    for (a, b) in left.iter().zip(right) {
+        faults |= spread_fault(n, *a) | plain_fault(n, *b);
+    }
+    faults < 1 << 63
 }
 
 fn write_plain(n: u32, es: u32, op: u8, left: &[u64], right: &[u64], lent: &mut [u64]) {
@@ -43,8 +46,7 @@ fn write_plain(n: u32, es: u32, op: u8, left: &[u64], right: &[u64], lent: &mut 
         *out = match (op, below <= *a) {
             (MULTIPLY, false) => plain_product(n, es, *a, *b),
             (MULTIPLY, true) => across_product(n, es, *a, *b),
-            (ADD, false) => plain_sum(n, es, *a, *b),
-            (ADD, true) => across_sum(n, es, *a, *b),
+            (ADD, _) => spread_sum(n, es, *a, *b),
             (_, false) => plain_quotient(n, es, *a, *b),
             (_, true) => across_quotient(n, es, *a, *b),
         };

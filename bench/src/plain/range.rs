@@ -1,7 +1,6 @@
 //! The operations on ranges in plain Rust: words to cells, the ends of the results, and back.
 
-use super::code::Coded;
-use super::code::{code_of, is_far, near_sum, near_total, product, quotient, signed_sum, step_of};
+use super::code::{code_of, product, quotient, signed_sum, step_of, total};
 use super::{chosen, is_format, negated, power, power32};
 use jorumrain::raw::range::RangeAnswer;
 
@@ -147,11 +146,7 @@ fn sum_cell(n: u32, es: u32, p: u32, q: u32) -> u32 {
     }
     let (less, x) = signed_form(n, es, p);
     let (under, y) = signed_form(n, es, q);
-    signed_cell(n, es, signed_sum(es, less, x, under, y))
-}
-
-fn signed_cell(n: u32, es: u32, sum: Option<(bool, Coded)>) -> u32 {
-    match sum {
+    match signed_sum(less, x, under, y) {
         None => power32(n) - 1,
         Some((negative, size)) => {
             let cell = above_zero(n, step_of(n, es, size));
@@ -163,22 +158,7 @@ fn signed_cell(n: u32, es: u32, sum: Option<(bool, Coded)>) -> u32 {
 /// The sum of two posits above 0.
 pub(super) fn total_cell(n: u32, es: u32, p: u32, q: u32) -> u32 {
     let (x, y) = (code_of(n, es, p), code_of(n, es, q));
-    if is_far(x, y) {
-        return sum_cell(n, es, p, q);
-    }
-    above_zero(n, step_of(n, es, near_total(es, x, y)))
-}
-
-/// The sum of a posit below 0 and one that is not.
-pub(super) fn across_cell(n: u32, es: u32, p: u32, q: u32) -> u32 {
-    if q == 0 {
-        return sum_cell(n, es, p, q);
-    }
-    let (x, y) = (code_of(n, es, power32(n) - p), code_of(n, es, q));
-    if is_far(x, y) {
-        return sum_cell(n, es, p, q);
-    }
-    signed_cell(n, es, near_sum(es, true, x, false, y))
+    above_zero(n, step_of(n, es, total(x, y)))
 }
 
 fn signed_form(n: u32, es: u32, p: u32) -> (bool, u64) {
@@ -389,12 +369,12 @@ fn end_above(n: u32, cell: u32) -> u32 {
 }
 
 pub(super) fn product_cell(n: u32, es: u32, p: u32, q: u32) -> u32 {
-    let product = product(es, code_of(n, es, p), code_of(n, es, q));
+    let product = product(code_of(n, es, p), code_of(n, es, q));
     above_zero(n, step_of(n, es, product))
 }
 
 pub(super) fn quotient_cell(n: u32, es: u32, p: u32, q: u32) -> u32 {
-    let quotient = quotient(es, code_of(n, es, p), code_of(n, es, q));
+    let quotient = quotient(code_of(n, es, p), code_of(n, es, q));
     above_zero(n, step_of(n, es, quotient))
 }
 

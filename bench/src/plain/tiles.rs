@@ -1,20 +1,25 @@
 //! The operations on ranges above 0, and on ranges across 0 with such a range, by their tiles.
 
-use super::range::{across_cell, joined, product_cell, quotient_cell, total_cell};
+use super::code::{code_of, difference, step_of};
+use super::range::{joined, product_cell, quotient_cell, total_cell};
 use super::{power, power32};
 
 const OPEN_ZERO: u32 = 1;
 
-/// Whether a word is a range above 0 with a member and an upper limit.
-pub fn is_plain(n: u32, w: u64) -> bool {
-    let (start, end) = (w / power(n + 1), w % power(n + 1));
-    1 <= start && start + 2 * (end % 2) <= end && (w / power(n)).is_multiple_of(2)
+/// Below 2^63 exactly where a word is a range above 0 with a member and an upper limit.
+pub fn plain_fault(n: u32, w: u64) -> u64 {
+    let (start, open) = (w / power(n + 1), w % 2);
+    let end = (w % power(n + 1) - open).wrapping_sub(open);
+    start.wrapping_sub(1) | end.wrapping_sub(start) | (w << (63 - n))
 }
 
-/// Whether a word is a range with a start below 0 and an end above it.
-pub fn is_across(n: u32, w: u64) -> bool {
-    let (start, end) = (w / power(n + 1), w % power(n + 1));
-    power(n) + 2 <= start && start < power(n + 1) && 2 <= end && end < power(n)
+/// Below 2^63 exactly where it is such a range, or one with a start below 0 and an end above it.
+pub fn spread_fault(n: u32, w: u64) -> u64 {
+    let (half, tile, open) = (power(n), w / power(n + 1), w % 2);
+    let start = (tile ^ half).wrapping_sub(half);
+    let end = (w % power(n + 1) - open).wrapping_sub(open);
+    let above = end.wrapping_sub(1) | end.wrapping_sub(start);
+    above | start.wrapping_add(half - 2) | tile.wrapping_sub(1) | (w << (63 - n))
 }
 
 /// A start and an end tile.
@@ -40,14 +45,26 @@ fn end_from(n: u32, s: u32, t: u32, cell: u32) -> u32 {
     (step + 2 * (step % 2)) | (s | t) % 2
 }
 
-pub fn plain_sum(n: u32, es: u32, a: u64, b: u64) -> u64 {
+pub fn spread_sum(n: u32, es: u32, a: u64, b: u64) -> u64 {
     let ((s, u), (t, v)) = (tiles(n, a), tiles(n, b));
+    let end = end_from(n, u, v, total_cell(n, es, u / 2, v / 2));
     let start = match (s, t) {
         (OPEN_ZERO, other) | (other, OPEN_ZERO) => other | 1,
+        _ if power32(n) <= s => across_start(n, es, s, t),
         _ => start_from(n, s, t, total_cell(n, es, s / 2, t / 2)),
     };
-    let end = end_from(n, u, v, total_cell(n, es, u / 2, v / 2));
     joined(n, start, end)
+}
+
+/// The start tile of the sums from the tile of a posit below 0 and another one on.
+fn across_start(n: u32, es: u32, s: u32, t: u32) -> u32 {
+    let open = (s | t) % 2;
+    let (p, q) = ((power32(n + 1) + 1 - s) / 2, t / 2);
+    if p == q {
+        return open;
+    }
+    let step = step_of(n, es, difference(code_of(n, es, q), code_of(n, es, p)));
+    (if q < p { power32(n + 1) - step } else { step }) | open
 }
 
 pub fn plain_product(n: u32, es: u32, a: u64, b: u64) -> u64 {
@@ -73,15 +90,6 @@ pub fn plain_quotient(n: u32, es: u32, a: u64, b: u64) -> u64 {
     } else {
         end_from(n, u, t, quotient_cell(n, es, u / 2, t / 2))
     };
-    joined(n, start, end)
-}
-
-pub fn across_sum(n: u32, es: u32, a: u64, b: u64) -> u64 {
-    let ((s, u), (t, v)) = (tiles(n, a), tiles(n, b));
-    let cell = across_cell(n, es, s / 2, t / 2);
-    let first = cell + cell % 2 * ((s | t) % 2);
-    let start = (first + 1 + power32(n)) % power32(n + 1);
-    let end = end_from(n, u, v, total_cell(n, es, u / 2, v / 2));
     joined(n, start, end)
 }
 
