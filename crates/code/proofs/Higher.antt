@@ -12,8 +12,8 @@ use lib.Ieee.Exact.{HasValue}
 use lib.Ieee.Fits.{down-pos}
 use borrow.Author.Tests.{lt-ltb, le-ltb}
 use Rattle.code.specs.Code.{scaleIn, digitsIn}
-use Rattle.code.proofs.Doubles.{same-value, no-nan, wordOf, bits-of, Written, whole-written}
-use Rattle.code.proofs.Doubled.{unitsOf, powers-meet, plain-value, plain-number, rounded}
+use Rattle.code.proofs.Doubles.{same-value, no-nan, wordOf, bits-of, whole-written}
+use Rattle.code.proofs.CodeBits.{unitsOf, powers-meet, plain-value, plain-number, rounded, written-units}
 use Rattle.code.proofs.ProductCode.{multiplied}
 
 -- ---- codes compare as their numbers do
@@ -37,17 +37,10 @@ units-most c d most = elim (decLe d c) [ yes k ↦ le-of-eq (ap unitsOf (le-anti
 units-back : (c d : ℕ) → unitsOf c ≤ unitsOf d → c ≤ d
 units-back c d most = elim (decLe c d) [ yes k ↦ k | no n ↦ absurd (not-le-of-lt (units-less d c (lt-of-not-le n)) most) ]
 
-pub units-same : (c d : ℕ) → unitsOf c ≡ unitsOf d → c ≡ d
+units-same : (c d : ℕ) → unitsOf c ≡ unitsOf d → c ≡ d
 units-same c d same = le-antisymm (units-back c d (le-of-eq same)) (units-back d c (le-of-eq (sym same)))
 
 -- ---- the bits of a double that is the number of a code
-module _ (n word : ℕ) (w : Written n word) where
-  written-units : unitsOf word ≡ n * 2
-  written-units =
-      let scale : scaleIn 52 word ≡ w .shift + 1 = omega (arith, w .says, w .at-least, w .less) in
-      let digits : digitsIn 52 word ≡ w .digits = omega (arith, w .says, w .at-least, w .less) in
-      rw (scale, digits, pow-add 2 (w .shift) 1) (omega (arith, w .number))
-
 module _ (r : Float) (c : ℕ) (at-least : 2 ^ 52 ≤ c) (less : c < 2047 * 2 ^ 52) (value : HasValue r false (unitsOf c) (2 ^ 1075)) where
   abbrev half : ℕ
   half = digitsIn 52 c * 2 ^ (scaleIn 52 c - 1)
@@ -58,7 +51,7 @@ module _ (r : Float) (c : ℕ) (at-least : 2 ^ 52 ≤ c) (less : c < 2047 * 2 ^ 
   many : 2 ^ 52 ≤ half
   many = omega (arith, halved, units-most (2 ^ 52) c at-least)
 
-  pub code-bits : toBits binary64 r ≡ c
+  code-bits : toBits binary64 r ≡ c
   code-bits =
       let n = half in
       let smallest : HasValue r false n (2 ^ 1074) = same-value r false (unitsOf c) (2 ^ 1075) n (2 ^ 1074) (pow-pos 1075) (powers-meet (digitsIn 52 c) (scaleIn 52 c - 1) 1075 (scaleIn 52 c) 1074 (omega arith)) value in
@@ -91,7 +84,7 @@ module _ (y : ℕ) (at-least : 27 * 2 ^ 52 ≤ y) (less : y < 2047 * 2 ^ 52) whe
       lt-of-lt-of-le (shl-lt 53 (scaleIn 52 (lowered y)) (omega arith)) (pow-mono room)
 
   -- the product has the digits of y, so that it is not rounded
-  pub lowered-value : HasValue (mul binary64 (ofBits binary64 y) (ofBits binary64 below)) false (unitsOf (lowered y)) (2 ^ 1075)
+  lowered-value : HasValue (mul binary64 (ofBits binary64 y) (ofBits binary64 below)) false (unitsOf (lowered y)) (2 ^ 1075)
   lowered-value =
       rw (multiplied binary64 (ofBits binary64 y) (ofBits binary64 below) (unitsOf y) (2 ^ 1049) (2 ^ 1075) (unitsOf (lowered y)) (pow-pos 1075) (plain-value y (omega arith) less) below-value lowered-units)
       (rounded false (unitsOf (lowered y)) (digitsIn 52 (lowered y)) (scaleIn 52 (lowered y)) refl (omega arith) (omega arith) lowered-small)
@@ -117,7 +110,7 @@ lt-values (fin u m e) (fin v n g) a b c C h k =
     (omega (arith, ap (λ (x : ℕ). x * down g) (h .1)))
     (omega (arith, ap (λ (x : ℕ). x * down e) (k .1))))
 
-pub greater-value : (x y : Float) (c d : ℕ) → HasValue x false (unitsOf c) (2 ^ 1075) → HasValue y false (unitsOf d) (2 ^ 1075)
+greater-value : (x y : Float) (c d : ℕ) → HasValue x false (unitsOf c) (2 ^ 1075) → HasValue y false (unitsOf d) (2 ^ 1075)
     → HasValue (cond (lt x y) y x) false (unitsOf (max c d)) (2 ^ 1075)
 greater-value x y c d h k =
     let test = lt-values x y (unitsOf c) (unitsOf d) (2 ^ 1075) (pow-pos 1075) h k in

@@ -15,7 +15,7 @@ use Rattle.exact.proofs.Powers.{pow-lt-cancel}
 use Rattle.posit.specs.Locating.{given}
 use Rattle.code.specs.Code.{scaleIn, digitsIn, codeValue}
 use Rattle.code.specs.Coded.{Fits, Codes, first}
-use Rattle.code.proofs.Doubled.{unitsOf, Bits}
+use Rattle.code.proofs.CodeBits.{unitsOf, Bits}
 
 pub given-≤ : (g f s a : ℕ) → g ≤ f → given g s a ≤ᶠ given f s a
 given-≤ g f s a h = overPower-≤ᶠ a .1 (pos-≤ℤ .1 (mul-le-mul-right (2 ^ s) h))
@@ -27,7 +27,7 @@ pub more-digits : (g s a k : ℕ) → given g s a ≈ given (g * 2 ^ k) s (a + k
 more-digits g s a k = overPower-pos-≈ a (a + k) .1 (rw (pow-add 2 a k) (omega arith))
 
 module _ (c : ℕ) where
-  pub cut-scale : scaleIn 24 (first c) ≡ scaleIn 52 c
+  cut-scale : scaleIn 24 (first c) ≡ scaleIn 52 c
   cut-scale = omega arith
 
   -- numbers of 24 digits on the scale of the code, with 28 zeros
@@ -56,7 +56,7 @@ scale-below c k h =
     pow-lt-cancel (52 + scaleIn 52 c) k (rw (pow-add 2 52 (scaleIn 52 c)) (lt-of-le-of-lt (mul-le-mul-right (2 ^ scaleIn 52 c) least) h))
 
 module _ {es : ℕ} {r : Float} {s : Bool} {N : ℕ} (b : Bits r s N) (large : 2 ^ (1075 - 48 * 2 ^ es) ≤ N) (small : N < 2 ^ (1075 + 32 * 2 ^ es)) where
-  pub bits-fits : Fits es (b .code)
+  bits-fits : Fits es (b .code)
   bits-fits =
       record {
         at-least = omega (arith, scale-above (b .code) (1075 - 48 * 2 ^ es) (rw (b .units) large));

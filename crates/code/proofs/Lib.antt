@@ -1,6 +1,6 @@
 pub mod Flip
 pub mod Doubles
-pub mod Doubled
+pub mod CodeBits
 pub mod Form
 pub mod Known
 pub mod ProductCode

@@ -17,7 +17,7 @@ use Rattle.exact.proofs.OverPower.{overPower-*ᶠ, overPower-pos-≈}
 use Rattle.code.specs.Code.{IsCode, scaleIn, codeValue}
 use Rattle.code.specs.Coded.{Codes}
 use Rattle.code.proofs.Doubles.{no-nan}
-use Rattle.code.proofs.Doubled.{unitsOf, rounded, Bits, value-bits, fifteen, units-by-fifteen, posit-value}
+use Rattle.code.proofs.CodeBits.{unitsOf, rounded, Bits, value-bits, fifteen, units-by-fifteen, posit-value}
 use Rattle.code.proofs.Known.{bits-codes}
 
 -- ---- the product of two doubles, by fractions of their size

@@ -28,7 +28,7 @@ use Rattle.posit.proofs.KnownQuotient.{quotient-within}
 use Rattle.code.specs.Code.{IsCode, scaleIn, digitsIn, codeValue}
 use Rattle.code.specs.Coded.{Fits, Codes, first}
 use Rattle.code.proofs.Doubles.{no-nan, wordOf, bits-of}
-use Rattle.code.proofs.Doubled.{unitsOf, fifteen, fifteen-are, posit-value}
+use Rattle.code.proofs.CodeBits.{unitsOf, fifteen, fifteen-are, posit-value}
 use Rattle.code.proofs.Known.{given-≤, given-<, more-digits, exact-codes}
 
 -- ---- the quotient of two doubles, by fractions of their size

@@ -73,7 +73,7 @@ as-multiple : (g s j : ℕ) → j ≤ s + 28 → g * 2 ^ s * 2 ^ 28 ≡ g * 2 ^ 
 as-multiple g s j h = omega (arith, ap (λ (p : ℕ). g * p) (pow-split h), ap (λ (p : ℕ). g * p) (pow-add 2 s 28))
 
 -- ---- what a code tells of one of them, it tells of the others
-pub codes-respects : {es c : ℕ} {y z : Fraction} → y ≈ z → Codes es y c → Codes es z c
+codes-respects : {es c : ℕ} {y z : Fraction} → y ≈ z → Codes es y c → Codes es z c
 codes-respects e k =
     record {
       fits = k .fits;
@@ -142,7 +142,7 @@ no-sign : (b : Bool) → withSignᶠ b (whole (pos 0)) ≈ whole (pos 0)
 no-sign true = ≈0 .1 refl
 no-sign false = ≈0 .1 refl
 
-pub signed-respects : (es : ℕ) {y z : Fraction} (r : SignedSum) → y ≈ z → IsSignedSum es y r → IsSignedSum es z r
+signed-respects : (es : ℕ) {y z : Fraction} (r : SignedSum) → y ≈ z → IsSignedSum es y r → IsSignedSum es z r
 signed-respects es Nothing e k = ≈-sym e ⨾ k
 signed-respects es (Something b c) e k = codes-respects (sign-cong b e) k
 

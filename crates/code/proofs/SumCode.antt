@@ -24,7 +24,7 @@ use Rattle.code.specs.Code.{IsCode, scaleIn, digitsIn, codeValue}
 use Rattle.code.specs.Coded.{Codes, IsSignedSum}
 use Rattle.code.proofs.Summed.{over-both, sign-none, alike-over, more-over, less-over, none-over}
 use Rattle.code.proofs.Doubles.{same-value, no-nan, add-alike, add-more, add-less, add-none, none-written, bits-of}
-use Rattle.code.proofs.Doubled.{unitsOf, code-value, plain-value, rounded, Bits, value-bits, fifteen, units-by-fifteen, code-held}
+use Rattle.code.proofs.CodeBits.{unitsOf, code-value, plain-value, rounded, Bits, value-bits, fifteen, units-by-fifteen, code-held}
 use Rattle.code.proofs.Known.{bits-codes}
 use Rattle.code.proofs.Higher.{units-less}
 use Rattle.code.proofs.Raised.{raised-code, raised-near, raised-total, raised-signed}

@@ -52,6 +52,7 @@ pub fn across_start(n: u32, es: u32, s: u32, t: u32) -> u32
         return s | 1;
     }
     let open = (s | t) % 2;
+    // the size of the posit below 0, whether its tile is open or not
     let p = (2 * power32(n) + 1 - s) / 2;
     let q = t / 2;
     if p == q {

@@ -12,7 +12,7 @@ pub const OPEN_ZERO: u32 = 1;
 // The place of a word's first bit, which says that a number is 2^63 or more.
 pub const FIRST_PLACE: u32 = 63;
 
-// Below 2^63 exactly where a word is such a range: each number joined here passes it where one test fails.
+// Below 2^63 exactly where a word is such a range: each number joined here passes it where one test fails, that of the start, of the order, and of the end.
 pub fn plain_fault(n: u32, w: u64) -> u64
     requires { ⌜ (3 ≤ n) × (n ≤ 16) ⌝ }
     ensures { λ r. ⌜ ltb r (2 ^ 63) ≡ isPlain n w ⌝ }

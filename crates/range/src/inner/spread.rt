@@ -23,7 +23,8 @@ use posit::inner::power::power;
 use std::num::wrapping_add_u64;
 use std::num::wrapping_sub_u64;
 
-// Below 2^63 exactly where a word is a range above 0 or across it, with limits. The start is counted from 0 with a sign.
+// Below 2^63 exactly where a word is a range above 0 or across it, with limits. The start is counted from 0 with a sign; the numbers joined say, in this order, that
+// the end lies behind 0, not before the start, that the start stands at neither tile of NaR, nor at a closed 0, and that the end lies before NaR.
 pub fn spread_fault(n: u32, w: u64) -> u64
     requires { ⌜ (3 ≤ n) × (n ≤ 16) ⌝ }
     ensures { λ r. ⌜ ltb r (2 ^ 63) ≡ isSpread n w ⌝ }

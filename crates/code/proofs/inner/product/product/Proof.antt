@@ -1,5 +1,5 @@
 -- `code::inner::product::product` meets its contract: the double of the product is no NaN, and its bits tell it (`ProductCode`).
-use Rattle.code.proofs.Doubled.{posit-number}
+use Rattle.code.proofs.CodeBits.{posit-number}
 use Rattle.code.proofs.ProductCode.{product-number, product-codes}
 use Rattle.code.proofs.inner.product.product.Statement.{statement}
 use Rattle.code.proofs.inner.product.product.Tie as tie

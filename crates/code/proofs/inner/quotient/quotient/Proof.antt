@@ -1,6 +1,6 @@
 -- `code::inner::quotient::quotient` meets its contract: the double of the quotient is no NaN, and its bits without the last twelve tell it (`QuotientCode`).
 use native.Mathlib.Omega.{arith}
-use Rattle.code.proofs.Doubled.{posit-number}
+use Rattle.code.proofs.CodeBits.{posit-number}
 use Rattle.code.proofs.QuotientCode.{quotient-number, quotient-small, quotient-codes}
 use Rattle.code.proofs.inner.quotient.quotient.Statement.{statement}
 use Rattle.code.proofs.inner.quotient.quotient.Tie as tie

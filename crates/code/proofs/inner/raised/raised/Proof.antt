@@ -1,7 +1,7 @@
 -- `code::inner::raised::raised` meets its contract: the product is the double of a code twenty-six scales below y, and the greater double is that of the greater code.
 use native.Mathlib.Omega.{arith}
 use borrow.Author.Needs.{needs}
-use Rattle.code.proofs.Doubled.{plain-number}
+use Rattle.code.proofs.CodeBits.{plain-number}
 use Rattle.code.proofs.Higher.{below-number, raised-number, raised-bits}
 use Rattle.code.proofs.inner.raised.raised.Statement.{statement}
 use Rattle.code.proofs.inner.raised.raised.Tie as tie

@@ -1,5 +1,5 @@
 -- `code::inner::sum::difference` meets its contract: codes that are brought near to each other keep their order, and the difference of their doubles is exact.
-use Rattle.code.proofs.Doubled.{plain-number}
+use Rattle.code.proofs.CodeBits.{plain-number}
 use Rattle.code.proofs.SumCode.{both-held, brought-least, brought-less, apart-number, apart-some}
 use Rattle.code.proofs.inner.sum.difference.Statement.{statement}
 use Rattle.code.proofs.inner.sum.difference.Tie as tie

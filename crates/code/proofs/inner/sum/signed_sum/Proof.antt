@@ -1,7 +1,7 @@
 -- `code::inner::sum::signed_sum` meets its contract: codes that are brought near to each other add exactly as doubles, and the bits of their sum are its sign and its code.
 use native.Mathlib.Omega.{arith}
 use borrow.Author.Needs.{needs}
-use Rattle.code.proofs.Doubled.{code-number}
+use Rattle.code.proofs.CodeBits.{code-number}
 use Rattle.code.proofs.SumCode.{both-held, brought-least, brought-less, sign-held, signed-number, signed-none, signed-some}
 use Rattle.code.proofs.inner.sum.signed_sum.Statement.{statement}
 use Rattle.code.proofs.inner.sum.signed_sum.Tie as tie

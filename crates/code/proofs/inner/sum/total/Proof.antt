@@ -1,5 +1,5 @@
 -- `code::inner::sum::total` meets its contract: codes that are brought near to each other add exactly as doubles, and the bits of their sum are its code.
-use Rattle.code.proofs.Doubled.{plain-number}
+use Rattle.code.proofs.CodeBits.{plain-number}
 use Rattle.code.proofs.SumCode.{both-held, brought-least, brought-less, total-number, total-codes}
 use Rattle.code.proofs.inner.sum.total.Statement.{statement}
 use Rattle.code.proofs.inner.sum.total.Tie as tie

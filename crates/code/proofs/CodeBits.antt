@@ -98,6 +98,13 @@ ends-in-zeros d q i j e more =
     let is : d ≡ q * 2 ^ (j - (i + 12)) * 2 ^ 12 = eq-of-mul-eq-mul-right (2 ^ i) (pow-pos i) d (q * 2 ^ (j - (i + 12)) * 2 ^ 12) (omega (arith, e, split, ap (λ (n : ℕ). q * 2 ^ (j - (i + 12)) * n) (pow-add 2 i 12))) in
     omega (arith, is)
 
+-- what is written of a number n of the smallest doubles
+pub written-units : (n word : ℕ) → Written n word → unitsOf word ≡ n * 2
+written-units n word w =
+    let scale : scaleIn 52 word ≡ w .shift + 1 = omega (arith, w .says, w .at-least, w .less) in
+    let digits : digitsIn 52 word ≡ w .digits = omega (arith, w .says, w .at-least, w .less) in
+    rw (scale, digits, pow-add 2 (w .shift) 1) (omega (arith, w .number))
+
 module _ (n q j word : ℕ) (is : n ≡ q * 2 ^ j) (few : q < 2 ^ 41) (less : n < 2 ^ 2098) (w : Written n word) where
   reaches : (k : ℕ) → n < 2 ^ k → 52 + w .shift < k
   reaches k below = pow-lt-cancel (52 + w .shift) k (rw (pow-add 2 52 (w .shift)) (lt-of-le-of-lt (mul-le-mul-right (2 ^ w .shift) (w .at-least)) (rw (sym (w .number)) below)))
@@ -110,12 +117,6 @@ module _ (n q j word : ℕ) (is : n ≡ q * 2 ^ j) (few : q < 2 ^ 41) (less : n 
       let zeros = ends-in-zeros (w .digits) q (w .shift) j (sym (w .number) ∙ is) (omega (arith, reaches (41 + j) (rw is (shl-lt 41 j few)))) in
       omega (arith, w .says, zeros)
 
-  word-units : unitsOf word ≡ n * 2
-  word-units =
-      let scale : scaleIn 52 word ≡ w .shift + 1 = omega (arith, w .says, w .at-least, w .less) in
-      let digits : digitsIn 52 word ≡ w .digits = omega (arith, w .says, w .at-least, w .less) in
-      rw (scale, digits, pow-add 2 (w .shift) 1) (omega (arith, w .number))
-
 pub value-bits : (r : Float) (s : Bool) (N q m : ℕ) → HasValue r s N (2 ^ 1075) → N ≡ q * 2 ^ m → q < 2 ^ 41 → 2 ^ 53 ≤ N → N < 2 ^ 2099 → Bits r s N
 value-bits r s N q m value is few large less =
     let some : 1 ≤ m = omega (arith, pow-lt-cancel 53 (41 + m) (lt-of-le-of-lt large (rw is (shl-lt 41 m few)))) in
@@ -127,7 +128,7 @@ value-bits r s N q m value is few large less =
       bits = bits-of r s n (same-value r s N (2 ^ 1075) n (2 ^ 1074) (pow-pos 1075) (halves s N q m is some) value);
       at-least = omega (arith, written .says, written .at-least);
       less = word-less n q (m - 1) (wordOf n) refl few (half-less s N q m is some less) written;
-      units = word-units n q (m - 1) (wordOf n) refl few (half-less s N q m is some less) written ∙ sym double;
+      units = written-units n (wordOf n) written ∙ sym double;
       few = word-few n q (m - 1) (wordOf n) refl few (half-less s N q m is some less) written;
     }
 
