@@ -217,17 +217,20 @@ module _ {z h : ℕ} (c : HighestBit z h) (few : h ≤ 52) where
       let places : 52 - h + (h + 1022) ≡ 1074 = omega arith in
       rw cut (ap (λ (x : ℕ). (h + 1022) * 2 ^ 52 + x) (rw places at (floor-of-more z (52 - h) (h + 1022))))
 
-module _ (z : ℕ) (few : z < 2 ^ 53) where
-  whole-value : HasValue (ofInt binary64 (pos z)) false z 1
-  unfolding ofInt
+module _ (s : Bool) (z : ℕ) (few : z < 2 ^ 53) where
+  pub whole-value : HasValue (round binary64 s z 1) s z 1
   whole-value =
       let most : 53 + 1074 ≤ 2098 = omega arith in
-      exactly-rounded false z 0 1074 refl z 0 (omega arith) few (lt-of-lt-of-le (shl-lt 53 1074 few) (pow-mono most))
+      exactly-rounded s z 0 1074 refl z 0 (omega arith) few (lt-of-lt-of-le (shl-lt 53 1074 few) (pow-mono most))
 
+  pub whole-is-written : toBits binary64 (round binary64 s z 1) ≡ boolByte s * 2 ^ 63 + wordOf (z * 2 ^ 1074)
+  whole-is-written = bits-of (round binary64 s z 1) s (z * 2 ^ 1074) (in-smallest s z 0 1074 refl (round binary64 s z 1) whole-value)
+
+module _ (z : ℕ) (few : z < 2 ^ 53) where
   pub whole-number : T (not (isNan (ofInt binary64 (pos z))))
-  whole-number = no-nan (ofInt binary64 (pos z)) false z 1 whole-value
+  unfolding ofInt
+  whole-number = no-nan (round binary64 false z 1) false z 1 (whole-value false z few)
 
   pub whole-bits : {h : ℕ} → HighestBit z h → toBits binary64 (ofInt binary64 (pos z)) ≡ (h + 1022) * 2 ^ 52 + z * 2 ^ (52 - h)
-  whole-bits {h} c =
-      bits-of (ofInt binary64 (pos z)) false (z * 2 ^ 1074) (in-smallest false z 0 1074 refl (ofInt binary64 (pos z)) whole-value)
-      ∙ zero-add (wordOf (z * 2 ^ 1074)) ∙ whole-word c (omega (arith, highest-below 53 c few))
+  unfolding ofInt
+  whole-bits {h} c = whole-is-written false z few ∙ zero-add (wordOf (z * 2 ^ 1074)) ∙ whole-word c (omega (arith, highest-below 53 c few))

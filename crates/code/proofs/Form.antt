@@ -1,9 +1,9 @@
 -- The code of a posit is its value: the double made of twice the pattern, or of twice how far it is from NaR's, has the closing bit of the run as its exponent
 -- and the tail behind it; counted from elsewhere, and with a run of ones from the other end, these are regime and tail as one number.
-use mathlib.Core.Path.{_≡_, refl, sym, ap, _∙_}
-use mathlib.Core.Bool.{Bool, true, false, not, true≢false, false≢true}
+use mathlib.Core.Path.{_≡_, sym, ap, _∙_}
+use mathlib.Core.Bool.{true, false, not, true≢false, false≢true}
 use Prim.Native.Nat.{ℕ, zero, suc, _+_, _-_, _*_, _%_, _^_, _≤_, _<_, zero-le}
-use native.Mathlib.Nat.{pow-succ', zero-add, zero-mul, mul-assoc, suc-add, mul-comm, mul-le-mul-right, mul-lt-mul-of-pos-right, lt-of-lt-of-le}
+use native.Mathlib.Nat.{pow-succ', zero-add, zero-mul, mul-assoc, suc-add, mul-comm, mul-le-mul-right, mul-lt-mul-of-pos-right}
 use native.Mathlib.Decide.{ℕ-discrete, decLt}
 use native.Mathlib.Omega.{arith}
 use lib.Dec.{T}
@@ -12,10 +12,9 @@ use lib.Signed.{ltZ}
 use lib.Bits.{bitXor, xor-block, xor-zero-r, xor-lt}
 use lib.Pow.{pow-pos, pow-mono, pow-add, shl-lt}
 use lib.Ieee.{binary64, isNan, ofInt, toBits, round}
-use lib.Ieee.Exact.{HasValue}
 use borrow.Author.Tests.{le-ltb}
 use mir.Syntax.{w32}
-use mir.Val.{SFits, toZ, ofZ, boolByte}
+use mir.Val.{SFits, toZ, ofZ}
 use mir.Facts.{toZ-pos, toZ-ofZ}
 use Rattle.exact.proofs.Linear.{spread, parts}
 use Rattle.exact.proofs.Powers.{pow-split}
@@ -27,21 +26,12 @@ use Rattle.posit.proofs.Growth.{G, G-wider, G-doubles, G-at-zero}
 use Rattle.posit.proofs.Shapes.{Shape, zeros, ones, allOnes, shape, zeros-value, ones-value, allOnes-value}
 use Rattle.posit.proofs.Mirror.{units-below}
 use Rattle.code.specs.Code.{scaleIn, digitsIn, IsCode, CodeOf}
-use Rattle.code.proofs.Doubles.{wordOf, exactly-rounded, in-smallest, bits-of, no-nan, whole-number, whole-bits}
+use Rattle.code.proofs.Doubles.{wordOf, no-nan, whole-value, whole-is-written, whole-number, whole-bits}
 
 abbrev pub bitsOf : ℤ → ℕ
 bitsOf z = toBits binary64 (ofInt binary64 z)
 
 -- ---- a whole number below 0 as a double: the sign is added to the bits
-module _ (s : Bool) (z : ℕ) (few : z < 2 ^ 53) where
-  whole-value : HasValue (round binary64 s z 1) s z 1
-  whole-value =
-      let most : 53 + 1074 ≤ 2098 = omega arith in
-      exactly-rounded s z 0 1074 refl z 0 (omega arith) few (lt-of-lt-of-le (shl-lt 53 1074 few) (pow-mono most))
-
-  whole-word : toBits binary64 (round binary64 s z 1) ≡ boolByte s * 2 ^ 63 + wordOf (z * 2 ^ 1074)
-  whole-word = bits-of (round binary64 s z 1) s (z * 2 ^ 1074) (in-smallest s z 0 1074 refl (round binary64 s z 1) whole-value)
-
 below-number : (k : ℕ) → suc k < 2 ^ 53 → T (not (isNan (ofInt binary64 (negsuc k))))
 unfolding ofInt
 below-number k few = no-nan (round binary64 true (suc k) 1) true (suc k) 1 (whole-value true (suc k) few)
@@ -49,8 +39,8 @@ below-number k few = no-nan (round binary64 true (suc k) 1) true (suc k) 1 (whol
 below-bits : (k : ℕ) → suc k < 2 ^ 53 → bitsOf (negsuc k) ≡ 2 ^ 63 + bitsOf (pos (suc k))
 unfolding ofInt
 below-bits k few =
-    whole-word true (suc k) few
-    ∙ ap (λ (x : ℕ). 2 ^ 63 + x) (sym (whole-word false (suc k) few ∙ zero-add (wordOf (suc k * 2 ^ 1074))))
+    whole-is-written true (suc k) few
+    ∙ ap (λ (x : ℕ). 2 ^ 63 + x) (sym (whole-is-written false (suc k) few ∙ zero-add (wordOf (suc k * 2 ^ 1074))))
 
 -- ---- twice a number has its highest bit one place further up
 module _ {z h : ℕ} (c : HighestBit z h) (few : h ≤ 15) where
