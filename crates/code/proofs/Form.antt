@@ -9,7 +9,7 @@ use native.Mathlib.Omega.{arith}
 use lib.Dec.{T}
 use lib.IntN.{ℤ, pos, negsuc, _-ℤ_}
 use lib.Signed.{ltZ}
-use lib.Bits.{bitXor, xor-block, xor-zero-r, xor-lt}
+use lib.Bits.{bitXor, xor-lt}
 use lib.Pow.{pow-pos, pow-mono, pow-add, shl-lt}
 use lib.Ieee.{binary64, isNan, ofInt, toBits, round}
 use borrow.Author.Tests.{le-ltb}
@@ -26,6 +26,7 @@ use Rattle.posit.proofs.Growth.{G, G-wider, G-doubles, G-at-zero}
 use Rattle.posit.proofs.Shapes.{Shape, zeros, ones, allOnes, shape, zeros-value, ones-value, allOnes-value}
 use Rattle.posit.proofs.Mirror.{units-below}
 use Rattle.code.specs.Code.{scaleIn, digitsIn, IsCode, CodeOf}
+use Rattle.code.proofs.Flip.{bit-turned}
 use Rattle.code.proofs.Doubles.{wordOf, no-nan, whole-value, whole-is-written, whole-number, whole-bits}
 
 abbrev pub bitsOf : ℤ → ℕ
@@ -203,12 +204,6 @@ minus-fits a b h k = elim (decLt a b) [
   | yes l ↦ rw (minus-more a b (b - suc a) (omega arith)) (record { sfits = omega arith })
   | no l ↦ rw (minus-less a b (a - b) (omega arith)) (record { sfits = omega arith })
 ]
-
--- ---- the bit k turned, where a stands from it on
-bit-turned : (k a : ℕ) {r : ℕ} → r < 2 ^ k → bitXor (a * 2 ^ k + r) (2 ^ k) ≡ bitXor a 1 * 2 ^ k + r
-bit-turned k a {r} h =
-    ap (bitXor (a * 2 ^ k + r)) {x = 2 ^ k} {y = 1 * 2 ^ k + 0} (omega arith)
-    ∙ xor-block k a 1 r 0 h (pow-pos k) ∙ ap (λ (x : ℕ). bitXor a 1 * 2 ^ k + x) (xor-zero-r r)
 
 -- ---- the pattern twice, with the first bit of its run turned, less that bit
 abbrev turned : ℕ → ℕ → ℤ

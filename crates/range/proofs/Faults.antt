@@ -1,6 +1,6 @@
 -- A word is judged without a jump: a difference passes 2^63 exactly where it is below 0, and numbers joined bit by bit are below 2^63 exactly where each
 -- of them is.
-use mathlib.Core.Path.{_≡_, refl, sym, ap, ap₂, _∙_}
+use mathlib.Core.Path.{_≡_, refl, sym, ap, _∙_}
 use mathlib.Core.Bool.{Bool, true, false, _&&_, _||_, true≢false}
 use mathlib.Core.Logic.{_↔_, _⊎_, inl, inr}
 use Prim.Native.Nat.{ℕ, zero, suc, _+_, _-_, _*_, _/_, _%_, _^_, _≤_, _<_}
@@ -8,10 +8,11 @@ use native.Mathlib.Nat.{mod-lt, lt-of-lt-of-le, lt-of-mul-lt-mul-right, mul-lt-m
 use native.Mathlib.Decide.{decLt}
 use native.Mathlib.Omega.{arith}
 use lib.Dec.{ltb}
-use lib.Bits.{bitOr, bitXor, or-lt, or-add-and, and-le-l, and-le-r, xor-step, xor-add-and, xor-block, xor-zero-r}
+use lib.Bits.{bitOr, bitXor, or-lt, or-add-and, and-le-l, and-le-r, xor-step, xor-add-and, xor-zero-r}
 use lib.Pow.{pow-pos, pow-mono, pow-add, split, shr-lt, shl-shr, mod-pow-add, mod-mod-pow}
 use borrow.Author.Tests.{le-leb, lt-ltb, le-ltb, ltb-true}
 use Rattle.posit.proofs.Mirror.{power-wider}
+use Rattle.code.proofs.Flip.{bit-turned}
 use Rattle.range.specs.Word.{tiles, startTile, endTile}
 use Rattle.range.specs.Plain.{isPlain}
 use Rattle.range.specs.Across.{isAcross}
@@ -84,13 +85,8 @@ start-counted n s {x} small room there is = by (s / 2 ^ n) refl
     rest : s % 2 ^ n < 2 ^ n
     rest = mod-lt s (pow-pos n)
 
-    one-bit : 2 ^ n ≡ 1 * 2 ^ n + 0
-    one-bit = omega arith
-
     parts : (x + 2 ^ n) % 2 ^ 64 ≡ bitXor (s / 2 ^ n) 1 * 2 ^ n + s % 2 ^ n
-    parts =
-        is ∙ ap₂ bitXor (sym (split s n)) one-bit
-        ∙ xor-block n (s / 2 ^ n) 1 (s % 2 ^ n) 0 rest (pow-pos n) ∙ ap (λ (r : ℕ). bitXor (s / 2 ^ n) 1 * 2 ^ n + r) (xor-zero-r (s % 2 ^ n))
+    parts = is ∙ ap (λ (i : ℕ). bitXor i (2 ^ n)) (sym (split s n)) ∙ bit-turned n (s / 2 ^ n) rest
 
     by : (q : ℕ) → s / 2 ^ n ≡ q → Counted (2 ^ n) s x
     by zero e = above (omega (arith, rw e at (split s n), rest)) (omega (arith, rw e at (split s n), rw e at parts))
