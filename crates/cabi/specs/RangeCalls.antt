@@ -1,11 +1,11 @@
 -- What the exported calls on ranges say: there is an answer that meets the range call's own contract, and the result is its plain shape.
 use mathlib.Core.Path.{_≡_}
 use Prim.Native.Nat.{ℕ}
-use Rattle.range.specs.declared.answer.Reply.{Reply}
-use Rattle.range.specs.declared.answer.WordAnswer.{WordAnswer}
-use Rattle.range.specs.declared.reading.Outgoing.{Outgoing}
-use Rattle.range.specs.Calls.{NegationOf, ComparisonOf, OperationOf}
-use Rattle.range.specs.Reading.{TakenIn, GivenOut}
+use Rattle.word.specs.declared.answer.Reply.{Reply}
+use Rattle.word.specs.declared.answer.WordAnswer.{WordAnswer}
+use Rattle.reading.specs.declared.reading.Outgoing.{Outgoing}
+use Rattle.word.specs.Calls.{NegationOf, ComparisonOf, OperationOf}
+use Rattle.reading.specs.Reading.{TakenIn, GivenOut}
 use lib.Ieee.{Float}
 use Rattle.cabi.specs.declared.range_shape.RangeAnswer.{RangeAnswer}
 use Rattle.cabi.specs.declared.range_shape.RangeOutgoing.{RangeOutgoing}

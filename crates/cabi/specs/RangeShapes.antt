@@ -1,7 +1,7 @@
 -- The plain shapes of the range calls' answers.
-use Rattle.range.specs.declared.answer.Reply.{Reply}
-use Rattle.range.specs.declared.answer.WordAnswer.{WordAnswer}
-use Rattle.range.specs.declared.reading.Outgoing.{Outgoing}
+use Rattle.word.specs.declared.answer.Reply.{Reply}
+use Rattle.word.specs.declared.answer.WordAnswer.{WordAnswer}
+use Rattle.reading.specs.declared.reading.Outgoing.{Outgoing}
 use Rattle.cabi.specs.declared.range_shape.RangeAnswer.{RangeAnswer}
 use Rattle.cabi.specs.declared.range_shape.RangeOutgoing.{RangeOutgoing}
 use Rattle.cabi.specs.declared.range_shape.RangeReply.{RangeReply}

@@ -1,11 +1,11 @@
 // The three comparisons of ranges, exported.
-ghost use Rattle.range.specs.Member.{Inside, Meets, Below};
+ghost use Rattle.word.specs.Member.{Inside, Meets, Below};
 ghost use Rattle.cabi.specs.RangeCalls.{ComparesAs};
 use super::range_shape::RangeReply;
 use super::range_shape::of_reply;
-use range::compare::below;
-use range::compare::inside;
-use range::compare::meets;
+use word::compare::below;
+use word::compare::inside;
+use word::compare::meets;
 
 // Each member of a is in b.
 #[no_mangle]

@@ -4,9 +4,9 @@ use super::range_shape::RangeAnswer;
 use super::range_shape::RangeOutgoing;
 use super::range_shape::of_outgoing;
 use super::range_shape::of_word_answer;
-use range::reading::Reading;
-use range::reading::give_out;
-use range::reading::take_in;
+use reading::reading::Reading;
+use reading::reading::give_out;
+use reading::reading::take_in;
 
 #[no_mangle]
 pub extern "C" fn jorumrain_range_take_in(n: u32, es: u32, low: f64, high: f64) -> RangeAnswer

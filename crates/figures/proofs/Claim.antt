@@ -5,8 +5,8 @@ use Rattle.posit.specs.Reading.{run}
 use Rattle.posit.specs.Value.{multiple, units}
 use Rattle.posit.specs.Nearest.{floorUpTo, chosen, nearestAbove, nearest}
 use Rattle.posit.specs.Arithmetic.{answer}
-use Rattle.range.specs.Word.{kindOfTiles}
-use Rattle.range.specs.Computed.{answerOf}
+use Rattle.word.specs.Word.{kindOfTiles}
+use Rattle.word.specs.Computed.{answerOf}
 use Rattle.figures.specs.Figures.{figures, all}
 use Rattle.figures.specs.Words.{listed, given, wanted}
 

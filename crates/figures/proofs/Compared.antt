@@ -2,9 +2,9 @@
 use mathlib.Core.Path.{refl}
 use mathlib.Core.Logic.{inl, inr}
 use native.Mathlib.Omega.{arith}
-use Rattle.range.specs.Word.{kindOfTiles}
-use Rattle.range.specs.Member.{Real, Below}
-use Rattle.range.proofs.Comparisons.{below-by-cells}
+use Rattle.word.specs.Word.{kindOfTiles}
+use Rattle.word.specs.Member.{Real, Below}
+use Rattle.word.proofs.Comparisons.{below-by-cells}
 use Rattle.figures.specs.Figures.{width, exponentSize, openOneTwo, oneTwo, twoThree}
 
 open-real : Real width openOneTwo

@@ -4,8 +4,8 @@ use mathlib.Core.List.{List, [], _∷_}
 use Prim.Native.Nat.{ℕ, _+_, _*_}
 use lib.Dec.{T, eqb}
 use Rattle.posit.specs.Arithmetic.{answer}
-use Rattle.range.specs.Word.{wordOf}
-use Rattle.range.specs.Computed.{answerOf}
+use Rattle.word.specs.Word.{wordOf}
+use Rattle.word.specs.Computed.{answerOf}
 
 -- the bench's format
 abbrev pub width : ℕ

@@ -1,7 +1,7 @@
 -- The words of document 01's list, n = 8, each with what it is.
 use mathlib.Core.List.{List, [], _∷_}
 use Prim.Native.Nat.{ℕ}
-use Rattle.range.specs.Word.{Kind, holds-infinity, unbounded, interval, point, empty, kind}
+use Rattle.word.specs.Word.{Kind, holds-infinity, unbounded, interval, point, empty, kind}
 use Rattle.figures.specs.Figures.{width, closed, open-end, word}
 
 pub record Listed : Type 0 where

@@ -11,21 +11,21 @@ use Rattle.bound.specs.Fractions.{fractions}
 use Rattle.bound.proofs.Bound.{has-member}
 use Rattle.bound.proofs.Standing.{lets-in-all, narrowest-start, narrowest-end}
 use Rattle.posit.specs.Arithmetic.{divide}
-use Rattle.range.specs.Word.{kind, empty, emptyWord, startOf, endOf}
-use Rattle.range.specs.Member.{Real, Member, AfterStart, BeforeEnd}
-use Rattle.range.specs.Numbered.{numberOf}
-use Rattle.range.specs.Smallest.{Smallest, StartStands, EndStands, DemandedEnds, Result}
-use Rattle.range.specs.Calls.{Negative}
-use Rattle.range.specs.Reading.{Between, badReading}
-use Rattle.range.proofs.Grid.{posits}
-use Rattle.range.proofs.RealWords.{start-placed, end-placed}
-use Rattle.range.proofs.Members.{start-bound, end-bound, empty-iff-no-member}
-use Rattle.range.proofs.WordAt.{empty-word-real}
-use Rattle.range.proofs.Answers.{empty-word-has-none, answer-of-extent}
-use Rattle.range.proofs.OneWord.{one-word}
-use Rattle.range.proofs.Computed.{results-span}
-use Rattle.range.proofs.Readings.{good, reading-spans}
-use Rattle.range.proofs.Mirrored.{negation-spans}
+use Rattle.word.specs.Word.{kind, empty, emptyWord, startOf, endOf}
+use Rattle.word.specs.Member.{Real, Member, AfterStart, BeforeEnd}
+use Rattle.word.specs.Numbered.{numberOf}
+use Rattle.word.specs.Smallest.{Smallest, StartStands, EndStands, DemandedEnds, Result}
+use Rattle.word.specs.Calls.{Negative}
+use Rattle.reading.specs.Reading.{Between, badReading}
+use Rattle.word.proofs.Grid.{posits}
+use Rattle.word.proofs.RealWords.{start-placed, end-placed}
+use Rattle.word.proofs.Members.{start-bound, end-bound, empty-iff-no-member}
+use Rattle.word.proofs.WordAt.{empty-word-real}
+use Rattle.word.proofs.Answers.{empty-word-has-none, answer-of-extent}
+use Rattle.word.proofs.OneWord.{one-word}
+use Rattle.word.proofs.Computed.{results-span}
+use Rattle.reading.proofs.Readings.{good, reading-spans}
+use Rattle.word.proofs.Mirrored.{negation-spans}
 
 -- a range with a member is not empty
 holds-some : (n es : ℕ) → 3 ≤ n → {w : ℕ} {x : Fraction} → Real n w → Member n es w x → kind n w ≢ empty

@@ -17,28 +17,28 @@ use Rattle.posit.specs.Arithmetic.{divide}
 use Rattle.posit.specs.Operation.{plus, minus, times, over}
 use Rattle.posit.specs.Refusal.{Verdict, Test, firstHit, left, right, formatTest, operationTest}
 use Rattle.posit.proofs.Verdicts.{hits, passes, none-hits, answers-done, answers-refused, format-of}
-use Rattle.range.specs.declared.answer.WordAnswer.{WordAnswer}
-use Rattle.range.specs.declared.inner.span.Span.{Span}
-use Rattle.range.specs.declared.inner.operands.Operands.{Operands}
-use Rattle.range.specs.declared.inner.operands.Operands.the-variants as operands
-use Rattle.range.specs.Word.{words}
-use Rattle.range.specs.Member.{Real, isMember}
-use Rattle.range.specs.Refusal.{verdictOfRanges, verdictOfRangeOperation, wordTest, infinityTest, operandTests, divisorTest}
-use Rattle.range.specs.Calls.{OperationOf, doneWord, refusedWord}
-use Rattle.range.specs.Spans.{cellsOf, mirrored, Cells, RealCells, wordAt}
-use Rattle.range.specs.Cells.{sumCells}
-use Rattle.range.specs.Signs.{hasZero, productCells, quotientCells}
-use Rattle.range.specs.Taking.{TakesBoth}
-use Rattle.range.specs.Computed.{answerOf}
-use Rattle.range.proofs.Verdicts.{refusal-stays, passed, says-by, refused-as-said, ranges-format, ranges-real}
-use Rattle.range.proofs.Taking.{refused-both, passed-both, both-refused}
-use Rattle.range.proofs.RealWords.{cells-at-hand, real-cells-at-hand}
-use Rattle.range.proofs.HasZero.{zero-member}
-use Rattle.range.proofs.SumRange.{sum-found}
-use Rattle.range.proofs.Difference.{difference-found}
-use Rattle.range.proofs.ByStages.{product-found, quotient-found}
-use Rattle.range.proofs.OneWord.{one-answer}
-use Rattle.range.proofs.Computed.{answer-computed}
+use Rattle.word.specs.declared.answer.WordAnswer.{WordAnswer}
+use Rattle.word.specs.declared.inner.span.Span.{Span}
+use Rattle.word.specs.declared.inner.operands.Operands.{Operands}
+use Rattle.word.specs.declared.inner.operands.Operands.the-variants as operands
+use Rattle.word.specs.Word.{words}
+use Rattle.word.specs.Member.{Real, isMember}
+use Rattle.word.specs.Refusal.{verdictOfRanges, verdictOfRangeOperation, wordTest, infinityTest, operandTests, divisorTest}
+use Rattle.word.specs.Calls.{OperationOf, doneWord, refusedWord}
+use Rattle.word.specs.Spans.{cellsOf, mirrored, Cells, RealCells, wordAt}
+use Rattle.cell.specs.Cells.{sumCells}
+use Rattle.signs.specs.Signs.{hasZero, productCells, quotientCells}
+use Rattle.word.specs.Taking.{TakesBoth}
+use Rattle.word.specs.Computed.{answerOf}
+use Rattle.word.proofs.Verdicts.{refusal-stays, passed, says-by, refused-as-said, ranges-format, ranges-real}
+use Rattle.word.proofs.Taking.{refused-both, passed-both, both-refused}
+use Rattle.word.proofs.RealWords.{cells-at-hand, real-cells-at-hand}
+use Rattle.signs.proofs.HasZero.{zero-member}
+use Rattle.cell.proofs.SumRange.{sum-found}
+use Rattle.cell.proofs.Difference.{difference-found}
+use Rattle.signs.proofs.ByStages.{product-found, quotient-found}
+use Rattle.word.proofs.OneWord.{one-answer}
+use Rattle.word.proofs.Computed.{answer-computed}
 
 -- ---- lists of tests
 same-rest : (t : Test) (ts us : List Test) → firstHit ts ≡ firstHit us → firstHit (t ∷ ts) ≡ firstHit (t ∷ us)

@@ -1,7 +1,3 @@
-// Ranges whose ends are posits, open or closed: each call is answered, or refused by number and place.
-pub mod answer;
-pub mod compare;
+// The four operations on ranges: each call is answered, or refused by number and place.
 pub mod inner;
-pub mod negate;
 pub mod operate;
-pub mod reading;

@@ -1,16 +1,16 @@
 // The four operations on two ranges: the smallest range that holds all exact results.
 ghost use mathlib.Core.Path.{_≡_};
 ghost use Rattle.posit.specs.Operation.{plus, minus, times, over};
-ghost use Rattle.range.specs.Calls.{OperationOf, doneWord, refusedWord};
-use super::answer::WordAnswer;
-use super::answer::ZERO_DIVISOR;
-use super::inner::add::add_cells;
-use super::inner::add::subtract_word;
-use super::inner::divide::divide_cells;
-use super::inner::multiply::multiply_cells;
-use super::inner::operands::Operands;
-use super::inner::operands::take_words;
-use super::inner::signs::has_zero;
+ghost use Rattle.word.specs.Calls.{OperationOf, doneWord, refusedWord};
+use word::answer::WordAnswer;
+use word::answer::ZERO_DIVISOR;
+use cell::inner::add::add_cells;
+use cell::inner::add::subtract_word;
+use signs::inner::divide::divide_cells;
+use signs::inner::multiply::multiply_cells;
+use word::inner::operands::Operands;
+use word::inner::operands::take_words;
+use signs::inner::signs::has_zero;
 use posit::answer::DONE;
 use posit::answer::LEFT;
 use posit::answer::NO_OPERATION;

@@ -4,8 +4,8 @@ use mathlib.Core.List.{List}
 use Prim.Native.Nat.{ℕ, _+_, _<_}
 use native.Mathlib.Omega.{arith}
 use lib.ListN.{length, getD}
-use Rattle.range.specs.Smallest.{IsAnswer, Result}
-use Rattle.range.proofs.Computed.{answer-computed}
+use Rattle.word.specs.Smallest.{IsAnswer, Result}
+use Rattle.word.proofs.Computed.{answer-computed}
 use Rattle.sheet.specs.declared.counted.Counted.{Counted}
 use Rattle.sheet.specs.Accepted.{ColumnsAccepted}
 use Rattle.sheet.specs.Column.{verdictOfColumns, answersOf}

@@ -13,8 +13,8 @@ use borrow.Author.Tests.{eq-eqb, ne-eqb, eqb-true}
 use Rattle.exact.specs.Fraction.{whole}
 use Rattle.posit.specs.Arithmetic.{divide}
 use Rattle.posit.specs.Refusal.{Test}
-use Rattle.range.specs.Member.{isMember}
-use Rattle.range.specs.Computed.{answerOf}
+use Rattle.word.specs.Member.{isMember}
+use Rattle.word.specs.Computed.{answerOf}
 use Rattle.sheet.specs.Refusal.{wordTests, holdsZero, divisorTestAt}
 use Rattle.sheet.specs.Accepted.{PairFits}
 use Rattle.sheet.specs.Column.{pairTests, pairsTests, answersOf}

@@ -13,11 +13,11 @@ use lib.ListN.{length, getD, drop, drop-of-length-le}
 use lib.Seq.{drop-cons}
 use borrow.Author.Tests.{eqb-false, not-true}
 use Rattle.posit.specs.Format.{Format}
-use Rattle.range.specs.Plain.{isPlain}
-use Rattle.range.specs.Spread.{isSpread}
-use Rattle.range.proofs.PlainCells.{real-of-plain, plain-no-zero}
-use Rattle.range.proofs.Spreading.{real-of-spread}
-use Rattle.range.proofs.Faults.{or-below}
+use Rattle.tiles.specs.Plain.{isPlain}
+use Rattle.tiles.specs.Spread.{isSpread}
+use Rattle.tiles.proofs.PlainCells.{real-of-plain, plain-no-zero}
+use Rattle.tiles.proofs.Spreading.{real-of-spread}
+use Rattle.tiles.proofs.Faults.{or-below}
 use Rattle.sheet.specs.Refusal.{holdsZero}
 use Rattle.sheet.specs.Accepted.{PairFits}
 use Rattle.sheet.specs.Column.{pairsTests}

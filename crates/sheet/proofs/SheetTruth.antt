@@ -14,12 +14,12 @@ use Rattle.bound.proofs.Extent.{NoMember}
 use Rattle.posit.specs.Arithmetic.{divide, exactResult}
 use Rattle.posit.specs.Format.{Format}
 use Rattle.posit.specs.Refusal.{done, firstHit}
-use Rattle.range.specs.Member.{Member}
-use Rattle.range.specs.Smallest.{IsAnswer, Result}
-use Rattle.range.specs.Computed.{answerOf}
-use Rattle.range.proofs.Computed.{answer-computed}
-use Rattle.range.proofs.Empty.{empty-answer-iff}
-use Rattle.range.proofs.Sheets.{no-zero-member, result-in-answer}
+use Rattle.word.specs.Member.{Member}
+use Rattle.word.specs.Smallest.{IsAnswer, Result}
+use Rattle.word.specs.Computed.{answerOf}
+use Rattle.word.proofs.Computed.{answer-computed}
+use Rattle.word.proofs.Empty.{empty-answer-iff}
+use Rattle.word.proofs.Sheets.{no-zero-member, result-in-answer}
 use Rattle.sheet.specs.declared.counted.Counted.{Counted}
 use Rattle.sheet.specs.Refusal.{wordTests, holdsZero}
 use Rattle.sheet.specs.Accepted.{SheetAccepted, rowsBefore}

@@ -14,11 +14,11 @@ use borrow.Author.Tests.{leb-false, ltb-false, le-ltb, le-leb, lt-leb}
 use Rattle.posit.specs.Format.{Format}
 use Rattle.posit.specs.Refusal.{Test, firstHit, done}
 use Rattle.posit.proofs.Verdicts.{none-hits}
-use Rattle.range.specs.declared.inner.judge.Judged.{Judged}
-use Rattle.range.specs.Calls.{SaysVerdict}
-use Rattle.range.specs.Member.{Real}
-use Rattle.range.specs.Computed.{answerOf}
-use Rattle.range.proofs.Computed.{answer-real}
+use Rattle.word.specs.declared.inner.judge.Judged.{Judged}
+use Rattle.word.specs.Calls.{SaysVerdict}
+use Rattle.word.specs.Member.{Real}
+use Rattle.word.specs.Computed.{answerOf}
+use Rattle.word.proofs.Computed.{answer-real}
 use Rattle.sheet.specs.Refusal.{wordTests, earlierTest}
 use Rattle.sheet.specs.Accepted.{StepFits}
 use Rattle.sheet.specs.Sheet.{Step, stepsOf, answerOfStep, withRow, rowsOf, inputsTests, stepTests, stepsTests}
@@ -26,7 +26,7 @@ use Rattle.sheet.specs.Working.{Reals}
 use Rattle.sheet.proofs.Tests.{Passing, all-pass, one-passes, Refusing, gives-none, one-refuses, gives-both, passing-parts, passing-skips, head-passes, tail-passes}
 use Rattle.sheet.proofs.Blocks.{joined, joined-same}
 use Rattle.sheet.proofs.Pairs.{divisor-clear, divisor-clears}
-use Rattle.range.proofs.Verdicts.{says-by}
+use Rattle.word.proofs.Verdicts.{says-by}
 use Rattle.sheet.proofs.Verdicts.{says-first, word-refusing, passing-real, either-true, either-false}
 
 -- ---- inputs

@@ -8,11 +8,11 @@ use lib.Dec.{T}
 use borrow.Author.Tests.{leb-false, lt-leb}
 use Rattle.posit.specs.Refusal.{Verdict, Test, firstHit}
 use Rattle.posit.proofs.Verdicts.{hits}
-use Rattle.range.specs.declared.inner.judge.Judged.{Judged}
-use Rattle.range.proofs.Verdicts.{says, says-by}
-use Rattle.range.specs.Word.{words}
-use Rattle.range.specs.Member.{Real}
-use Rattle.range.specs.Calls.{SaysVerdict, verdictOfWord}
+use Rattle.word.specs.declared.inner.judge.Judged.{Judged}
+use Rattle.word.proofs.Verdicts.{says, says-by}
+use Rattle.word.specs.Word.{words}
+use Rattle.word.specs.Member.{Real}
+use Rattle.word.specs.Calls.{SaysVerdict, verdictOfWord}
 use Rattle.sheet.specs.Refusal.{wordTests}
 use Rattle.sheet.proofs.Tests.{Passing, all-pass, one-passes, Giving, gives-one, Refusing, gives-none, one-refuses, passing-of, passing-done, passing-skips, head-passes, tail-passes, refusal-stays}
 

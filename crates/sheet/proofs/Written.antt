@@ -7,8 +7,8 @@ use native.Mathlib.Omega.{arith}
 use lib.ListN.{length, take, drop, length-drop, drop-of-length-le}
 use lib.Seq.{take-all, drop-drop}
 use Rattle.posit.specs.Refusal.{Verdict, done}
-use Rattle.range.specs.declared.inner.judge.Judged.{Judged}
-use Rattle.range.specs.Calls.{SaysVerdict}
+use Rattle.word.specs.declared.inner.judge.Judged.{Judged}
+use Rattle.word.specs.Calls.{SaysVerdict}
 use Rattle.sheet.specs.Written.{Writes, countOf, laterOf, overwritten}
 use Rattle.sheet.proofs.Verdicts.{refuses}
 

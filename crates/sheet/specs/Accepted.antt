@@ -6,7 +6,7 @@ use Prim.Native.Nat.{ℕ, _+_, _/_, _%_, _≤_, _<_}
 use lib.ListN.{length, getD, take}
 use Rattle.posit.specs.Arithmetic.{divide}
 use Rattle.posit.specs.Format.{Format}
-use Rattle.range.specs.Member.{Real}
+use Rattle.word.specs.Member.{Real}
 use Rattle.sheet.specs.Refusal.{longestColumn, mostInputs, mostSteps, stepBytes, holdsZero}
 use Rattle.sheet.specs.Sheet.{Step, noStep, stepsOf, rowsOf}
 use Rattle.sheet.specs.File.{headBytes, version, versionOf, widthOf, exponentSizeOf, inputCount, stepCount, lengthOf, inputsPart, stepsPart}

@@ -3,7 +3,7 @@ use mathlib.Core.List.{List, [], _∷_, _++_}
 use Prim.Native.Nat.{ℕ, suc}
 use lib.ListN.{length}
 use Rattle.posit.specs.Refusal.{Verdict, Test, firstHit, formatTest, operationTest}
-use Rattle.range.specs.Computed.{answerOf}
+use Rattle.word.specs.Computed.{answerOf}
 use Rattle.sheet.specs.Refusal.{wordTests, divisorTestAt, lengthTest, roomTest}
 
 -- 1, 2, 7 and 9, of the columns' lengths

@@ -6,7 +6,7 @@ use lib.IntN.{pos}
 use lib.ListN.{length, getD}
 use Rattle.exact.specs.Fraction.{Fraction, _≈_, whole}
 use Rattle.posit.specs.Arithmetic.{divide, exactResult}
-use Rattle.range.specs.Member.{Member}
+use Rattle.word.specs.Member.{Member}
 use Rattle.sheet.specs.Sheet.{Step, noStep, rowsOf}
 use Rattle.sheet.specs.Depends.{DependsOn}
 

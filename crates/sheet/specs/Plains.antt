@@ -4,8 +4,8 @@ use mathlib.Core.Bool.{Bool, true, not, _&&_}
 use mathlib.Core.List.{List, [], _∷_}
 use Prim.Native.Nat.{ℕ}
 use lib.Dec.{eqb}
-use Rattle.range.specs.Plain.{isPlain}
-use Rattle.range.specs.Spread.{isSpread}
+use Rattle.tiles.specs.Plain.{isPlain}
+use Rattle.tiles.specs.Spread.{isSpread}
 
 -- the number of the operation that has no plain way
 abbrev pub subtract : ℕ

@@ -7,8 +7,8 @@ use lib.Dec.{eqb, leb, ltb}
 use Rattle.exact.specs.Fraction.{whole}
 use Rattle.posit.specs.Arithmetic.{divide}
 use Rattle.posit.specs.Refusal.{Test}
-use Rattle.range.specs.Member.{isMember}
-use Rattle.range.specs.Refusal.{wordTest, infinityTest}
+use Rattle.word.specs.Member.{isMember}
+use Rattle.word.specs.Refusal.{wordTest, infinityTest}
 
 -- the greatest number of words in a column, of inputs and steps in a sheet, and the bytes of a step
 abbrev pub longestColumn : ℕ

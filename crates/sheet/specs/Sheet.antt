@@ -3,7 +3,7 @@ use mathlib.Core.List.{List, [], _∷_, _++_}
 use Prim.Native.Nat.{ℕ, suc, _+_, _/_}
 use lib.ListN.{length, getD}
 use Rattle.posit.specs.Refusal.{Verdict, Test, firstHit, formatTest}
-use Rattle.range.specs.Computed.{answerOf}
+use Rattle.word.specs.Computed.{answerOf}
 use Rattle.sheet.specs.Refusal.{stepBytes, wordTests, operationTestAt, divisorTestAt, sizeTest, earlierTest, roomTest}
 
 -- a step is an operation number and two earlier rows

@@ -4,7 +4,7 @@ use mathlib.Core.List.{List}
 use Prim.Native.Nat.{ℕ, _+_, _/_, _<_}
 use lib.ListN.{length, take, getD}
 use Rattle.posit.specs.Refusal.{firstHit}
-use Rattle.range.specs.Member.{Real}
+use Rattle.word.specs.Member.{Real}
 use Rattle.sheet.specs.declared.inner.steps.Worked.{Worked}
 use Rattle.sheet.specs.Refusal.{stepBytes}
 use Rattle.sheet.specs.Sheet.{stepsOf, rowsOf, stepsTests}

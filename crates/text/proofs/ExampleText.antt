@@ -4,8 +4,8 @@ use Rattle.posit.specs.Refusal.{firstHit}
 use Rattle.posit.specs.Reading.{run}
 use Rattle.posit.specs.Value.{multiple, units}
 use Rattle.posit.specs.Nearest.{floorUpTo, chosen, nearestAbove, nearest}
-use Rattle.range.specs.Computed.{answerOf}
-use Rattle.range.specs.Word.{kindOfTiles}
+use Rattle.word.specs.Computed.{answerOf}
+use Rattle.word.specs.Word.{kindOfTiles}
 use Rattle.sheet.specs.File.{numberOf, wordsOf, fileOf, hasMark, verdictOfFile, rowsOfFile}
 use Rattle.sheet.specs.Refusal.{wordTests, holdsZero}
 use Rattle.sheet.specs.Sheet.{stepsOf, rowsOf, inputsTests, stepsTests}

@@ -3,7 +3,7 @@ use mathlib.Core.Bool.{Bool, true, false}
 use mathlib.Core.List.{List, [], _∷_, _++_}
 use Prim.Native.Nat.{ℕ, zero, suc, _+_, _-_, _/_, _%_}
 use lib.Dec.{ltb}
-use Rattle.range.specs.Word.{startTile, endTile, positOf, markOf}
+use Rattle.word.specs.Word.{startTile, endTile, positOf, markOf}
 
 -- `ROW` and `NO`, a space and a line feed
 abbrev pub rowWord : List ℕ

@@ -2,12 +2,12 @@
 ghost use mathlib.Core.Path.{_≡_};
 ghost use Prim.Native.Nat.{_≤_};
 ghost use Rattle.posit.specs.Format.{Format};
-ghost use Rattle.range.specs.Member.{Real};
-ghost use Rattle.range.specs.Computed.{answerOf};
-use super::add::add_ranges;
-use super::add::subtract_ranges;
-use super::divide::divide_ranges;
-use super::multiply::multiply_ranges;
+ghost use Rattle.word.specs.Member.{Real};
+ghost use Rattle.word.specs.Computed.{answerOf};
+use cell::inner::add::add_ranges;
+use cell::inner::add::subtract_ranges;
+use signs::inner::divide::divide_ranges;
+use signs::inner::multiply::multiply_ranges;
 
 // 0 add, 1 subtract, 2 multiply, 3 divide.
 pub fn operate_words(n: u32, es: u32, op: u8, a: u64, b: u64) -> u64

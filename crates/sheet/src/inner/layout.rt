@@ -3,7 +3,7 @@ ghost use mathlib.Core.Path.{_≡_};
 ghost use Prim.Native.Nat.{_+_, _*_, _≤_};
 ghost use lib.ListN.{length, take, drop};
 ghost use Rattle.posit.specs.Refusal.{firstHit};
-ghost use Rattle.range.specs.Calls.{SaysVerdict};
+ghost use Rattle.word.specs.Calls.{SaysVerdict};
 ghost use Rattle.sheet.specs.File.{hasMark, numberOf, wordsOf, fileTests};
 use super::super::counted::BAD_FILE;
 use super::super::counted::WRONG_LENGTH;
@@ -14,7 +14,7 @@ use super::limits::at_start;
 use posit::answer::DONE;
 use posit::answer::OUTSIDE_LIMITS;
 use posit::inner::format::is_format;
-use range::inner::judge::Judged;
+use word::inner::judge::Judged;
 
 pub const HEAD_BYTES: usize = 9;
 

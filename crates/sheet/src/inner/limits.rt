@@ -1,7 +1,7 @@
 // The tests of lengths: 1, 2, 7 and 9, at place 0.
 ghost use mathlib.Core.Path.{_≡_};
 ghost use Rattle.posit.specs.Refusal.{firstHit};
-ghost use Rattle.range.specs.Calls.{SaysVerdict};
+ghost use Rattle.word.specs.Calls.{SaysVerdict};
 ghost use Rattle.sheet.specs.Column.{columnLimits};
 ghost use Rattle.sheet.specs.Sheet.{sheetLimits};
 use super::super::counted::NO_ROOM;
@@ -10,7 +10,7 @@ use posit::answer::DONE;
 use posit::answer::NO_OPERATION;
 use posit::answer::OUTSIDE_LIMITS;
 use posit::inner::format::is_format;
-use range::inner::judge::Judged;
+use word::inner::judge::Judged;
 
 pub const LAST_OPERATION: u8 = 3;
 

@@ -5,15 +5,15 @@ ghost use Prim.Native.Nat.{_≤_};
 ghost use lib.ListN.{length, drop};
 ghost use Rattle.posit.specs.Format.{Format};
 ghost use Rattle.posit.specs.Refusal.{firstHit};
-ghost use Rattle.range.specs.Calls.{SaysVerdict};
+ghost use Rattle.word.specs.Calls.{SaysVerdict};
 ghost use Rattle.sheet.specs.Column.{pairTests, pairsTests, answersOf};
 use posit::answer::DONE;
 use posit::answer::LEFT;
-use range::answer::ZERO_DIVISOR;
-use range::inner::judge::Judged;
-use range::inner::judge::judge_word;
+use word::answer::ZERO_DIVISOR;
+use word::inner::judge::Judged;
+use word::inner::judge::judge_word;
 use range::inner::operate::operate_words;
-use range::inner::zero::has_zero;
+use signs::inner::zero::has_zero;
 
 const DIVIDE: u8 = 3;
 

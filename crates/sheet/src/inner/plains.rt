@@ -6,16 +6,16 @@ ghost use mathlib.Core.List.{_++_};
 ghost use Prim.Native.Nat.{_≤_};
 ghost use lib.ListN.{length, drop};
 ghost use Rattle.posit.specs.Format.{Format};
-ghost use Rattle.range.specs.Plain.{isPlain};
-ghost use Rattle.range.specs.Spread.{isSpread};
-ghost use Rattle.range.specs.Computed.{answerOf};
+ghost use Rattle.tiles.specs.Plain.{isPlain};
+ghost use Rattle.tiles.specs.Spread.{isSpread};
+ghost use Rattle.word.specs.Computed.{answerOf};
 ghost use Rattle.sheet.specs.Column.{answersOf};
 ghost use Rattle.sheet.specs.Plains.{allPlain, takesPlainWay};
-use range::inner::plain::plain_fault;
-use range::inner::spread::spread_fault;
-use range::inner::spread::spread_product;
-use range::inner::spread::spread_quotient;
-use range::inner::spread::spread_sum;
+use tiles::inner::plain::plain_fault;
+use tiles::inner::spread::spread_fault;
+use tiles::inner::spread::spread_product;
+use tiles::inner::spread::spread_quotient;
+use tiles::inner::spread::spread_sum;
 
 const ADD: u8 = 0;
 

@@ -5,7 +5,7 @@ ghost use Prim.Native.Nat.{_+_, _/_, _%_, _≤_};
 ghost use lib.ListN.{length, take, drop};
 ghost use Rattle.posit.specs.Format.{Format};
 ghost use Rattle.posit.specs.Refusal.{firstHit};
-ghost use Rattle.range.specs.Calls.{SaysVerdict};
+ghost use Rattle.word.specs.Calls.{SaysVerdict};
 ghost use Rattle.sheet.specs.Sheet.{stepTests, inputsTests};
 ghost use Rattle.sheet.specs.Working.{Reals, StepsWorked};
 use super::super::counted::NOT_EARLIER;
@@ -13,11 +13,11 @@ use super::limits::LAST_OPERATION;
 use posit::answer::DONE;
 use posit::answer::LEFT;
 use posit::answer::NO_OPERATION;
-use range::answer::ZERO_DIVISOR;
-use range::inner::judge::Judged;
-use range::inner::judge::judge_word;
+use word::answer::ZERO_DIVISOR;
+use word::inner::judge::Judged;
+use word::inner::judge::judge_word;
 use range::inner::operate::operate_words;
-use range::inner::zero::has_zero;
+use signs::inner::zero::has_zero;
 
 // The rows of a sheet, with the number and place that working it came to.
 pub struct Worked {

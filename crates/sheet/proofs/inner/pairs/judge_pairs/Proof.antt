@@ -9,7 +9,7 @@ use Rattle.posit.specs.Refusal.{firstHit}
 use Rattle.posit.proofs.Verdicts.{none-hits}
 use Rattle.sheet.specs.Column.{pairTests, pairsTests}
 use Rattle.sheet.proofs.Tests.{passing-of, passing-skips}
-use Rattle.range.proofs.Verdicts.{says, says-by}
+use Rattle.word.proofs.Verdicts.{says, says-by}
 use Rattle.sheet.proofs.Verdicts.{says-first, accepts}
 use Rattle.sheet.proofs.Pairs.{pair-refusing, pairs-next, pairs-end}
 use Rattle.sheet.proofs.inner.pairs.judge_pairs.Statement.{statement}

@@ -5,8 +5,8 @@ use Prim.Native.Nat.{_-_, _≤_}
 use native.Mathlib.Omega.{arith}
 use lib.ListN.{length, getD}
 use borrow.Author.Needs.{needs}
-use Rattle.range.specs.Plain.{isPlain}
-use Rattle.range.specs.Spread.{isSpread}
+use Rattle.tiles.specs.Plain.{isPlain}
+use Rattle.tiles.specs.Spread.{isSpread}
 use Rattle.sheet.specs.Column.{answersOf}
 use Rattle.sheet.proofs.Copies.{Copied, copy-none, copy-one, copy-length, copy-whole}
 use Rattle.sheet.proofs.Pairs.{length-answers, answer-at}

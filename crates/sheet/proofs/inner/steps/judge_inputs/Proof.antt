@@ -10,7 +10,7 @@ use Rattle.posit.proofs.Verdicts.{none-hits}
 use Rattle.sheet.specs.Refusal.{wordTests}
 use Rattle.sheet.specs.Sheet.{inputsTests}
 use Rattle.sheet.proofs.Tests.{passing-skips}
-use Rattle.range.proofs.Verdicts.{says, says-by}
+use Rattle.word.proofs.Verdicts.{says, says-by}
 use Rattle.sheet.proofs.Verdicts.{says-first, word-says, word-passing}
 use Rattle.sheet.proofs.Steps.{inputs-next, inputs-end}
 use Rattle.sheet.proofs.inner.steps.judge_inputs.Statement.{statement}

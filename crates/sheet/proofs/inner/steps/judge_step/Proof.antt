@@ -9,7 +9,7 @@ use lib.Seq.{length-take-le, getD-take}
 use borrow.Author.Needs.{needs}
 use borrow.Author.Tests.{lt-ltb, le-ltb}
 use Rattle.exact.specs.Fraction.{whole}
-use Rattle.range.specs.Member.{Real, isMember}
+use Rattle.word.specs.Member.{Real, isMember}
 use Rattle.sheet.specs.Refusal.{operationTestAt, earlierTest, divisorTestAt}
 use Rattle.sheet.proofs.Tests.{Passing, all-pass, one-passes, passing-both}
 use Rattle.sheet.proofs.Verdicts.{says-hit, says-done}

@@ -7,7 +7,7 @@ use lib.ListN.{length, getD, take, drop, length-set}
 use lib.Seq.{length-take-le, getD-take}
 use borrow.Author.Needs.{needs}
 use Rattle.posit.specs.Refusal.{Verdict}
-use Rattle.range.specs.Member.{Real}
+use Rattle.word.specs.Member.{Real}
 use Rattle.sheet.specs.Accepted.{StepFits}
 use Rattle.sheet.specs.Sheet.{Step, stepsOf, stepTests}
 use Rattle.sheet.proofs.Tests.{Passing, passing-of}

@@ -6,7 +6,7 @@ use native.Mathlib.Omega.{arith}
 use lib.ListN.{length}
 use lib.Pow.{pow-pos}
 use borrow.Author.Needs.{needs}
-use Rattle.range.specs.Word.{startTile, endTile}
+use Rattle.word.specs.Word.{startTile, endTile}
 use Rattle.text.specs.Put.{Put}
 use Rattle.text.specs.Text.{endFields}
 use Rattle.text.proofs.Puts.{put-next}

@@ -1,0 +1,2 @@
+// The cell of an exact number, and the cells of sums.
+pub mod inner;

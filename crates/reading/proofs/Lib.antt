@@ -1,0 +1,3 @@
+pub mod FloatOrder
+pub mod Readings
+pub mod GoingOut

@@ -1,0 +1,10 @@
+pub mod Edges
+pub mod Operands
+pub mod Parts
+pub mod SignedCells
+pub mod ReachedCells
+pub mod OneSigned
+pub mod NoOperand
+pub mod ByStages
+pub mod HasZero
+pub mod Mixed

@@ -1,0 +1,2 @@
+// Products and quotients of ranges by the signs of their members.
+pub mod inner;

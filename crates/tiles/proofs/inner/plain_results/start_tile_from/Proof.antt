@@ -1,0 +1,23 @@
+-- `range::inner::plain_results::start_tile_from` meets its contract: the tile of a cell above that of 0 is its distance from the cells up to 0 (`PlainResults`).
+use native.Mathlib.Omega.{arith}
+use borrow.Author.Needs.{needs}
+use Rattle.posit.proofs.Mirror.{power-wider}
+use Rattle.word.proofs.Tiles.{half-small}
+use Rattle.tiles.proofs.PlainResults.{start-tile-found}
+use Rattle.tiles.proofs.inner.plain_results.start_tile_from.Statement.{statement}
+use Rattle.tiles.proofs.inner.plain_results.start_tile_from.Tie as tie
+
+add-step : tie.Need-add-step
+add-step c = omega (arith, power-wider (c .args .n), half-small (c .pre .1))
+
+power32-requires : tie.Need-power32-requires
+power32-requires c κs = search needs
+
+sub-step : tie.Need-sub-step
+sub-step c = search needs
+
+returns : tie.Need-returns
+returns c = rw (c .power32 .ensures) (start-tile-found (c .before .args .n) (c .before .pre .0) (c .before .args .s) (c .before .args .t) (c .before .pre .2) (c .before .pre .3))
+
+pub start-tile-from-spec : {M : Type 1} → statement M
+start-tile-from-spec = tie.close (tie.spec add-step power32-requires sub-step returns)

@@ -1,0 +1,9 @@
+pub mod Word
+pub mod Member
+pub mod Smallest
+pub mod Refusal
+pub mod Calls
+pub mod Numbered
+pub mod Spans
+pub mod Taking
+pub mod Computed
