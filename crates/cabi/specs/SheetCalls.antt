@@ -3,9 +3,9 @@
 use mathlib.Core.Path.{_≡_}
 use mathlib.Core.List.{List}
 use Prim.Native.Nat.{ℕ}
-use Rattle.posit.specs.Refusal.{Verdict}
-use Rattle.sheet.specs.declared.counted.Counted.{Counted}
-use Rattle.sheet.specs.Written.{Writes}
+use Rattle.call.specs.Verdict.{Verdict}
+use Rattle.call.specs.declared.counted.Counted.{Counted}
+use Rattle.call.specs.Written.{Writes}
 use Rattle.cabi.specs.declared.sheet_shape.SheetAnswer.{SheetAnswer}
 use Rattle.cabi.specs.SheetShapes.{ofCounted}
 

@@ -1,5 +1,5 @@
 -- The plain shape of the column and sheet calls' answers.
-use Rattle.sheet.specs.declared.counted.Counted.{Counted}
+use Rattle.call.specs.declared.counted.Counted.{Counted}
 use Rattle.cabi.specs.declared.sheet_shape.SheetAnswer.{SheetAnswer}
 
 abbrev pub ofCounted : Counted → SheetAnswer

@@ -1,7 +1,7 @@
 // The struct that the exported calls on columns and sheets give.
 ghost use mathlib.Core.Path.{_≡_};
 ghost use Rattle.cabi.specs.SheetShapes as Spec;
-use sheet::counted::Counted;
+use call::counted::Counted;
 
 // A refusal's number and place, and the count of words written.
 #[repr(C)]

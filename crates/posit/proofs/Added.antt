@@ -24,7 +24,8 @@ use Rattle.posit.specs.Value.{value}
 use Rattle.posit.specs.Rounding.{Rounds, zero-gives-zero, posit-gives-itself}
 use Rattle.posit.specs.Magnitudes.{withSignᶠ, Unpacks, Words, Knows, IsSum, RoundsEach, AddsFinite}
 use Rattle.posit.specs.Arithmetic.{hasNoNumber}
-use Rattle.posit.specs.Operation.{plus, minus, Operates}
+use Rattle.call.specs.Operation.{plus, minus}
+use Rattle.posit.specs.Operation.{Operates}
 use Rattle.posit.proofs.Mirror.{negated-negated, negated-nar, value-negated}
 use Rattle.posit.proofs.OneAnswer.{rounds-respects}
 use Rattle.posit.proofs.SmallScale.{kept}

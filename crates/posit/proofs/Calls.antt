@@ -2,11 +2,13 @@
 use mathlib.Core.Path.{_≡_, refl, sym, ap, _∙_}
 use Prim.Native.Nat.{ℕ, _^_, _≤_, _<_}
 use Rattle.posit.specs.declared.answer.Answer.{Answer}
-use Rattle.posit.specs.declared.inner.judge.Judged.{Judged}
+use Rattle.call.specs.declared.judged.Judged.{Judged}
 use Rattle.posit.specs.Format.{Format}
-use Rattle.posit.specs.Refusal.{Verdict, verdictOfTwo}
-use Rattle.posit.specs.Operation.{Says, Operates, OperationOf, doneWith, refusedWith}
-use Rattle.posit.proofs.Verdicts.{answers-done, operation-judged, Accepted, accepted}
+use Rattle.call.specs.Verdict.{Verdict, Says}
+use Rattle.posit.specs.Refusal.{verdictOfTwo}
+use Rattle.posit.specs.Operation.{Operates, OperationOf, doneWith, refusedWith}
+use Rattle.call.proofs.Answered.{answers-done}
+use Rattle.posit.proofs.Verdicts.{operation-judged, Accepted, accepted}
 
 module _ (n es op p q : ℕ) (known : op ≤ 3) {j : Judged} (says : Says (verdictOfTwo n es p q) j) where
   pub call-refused : {r : Answer} → (j .number ≡ 0 → ⊥) → r ≡ refusedWith (j .number) (j .place) → OperationOf n es op p q r

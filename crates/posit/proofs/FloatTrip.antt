@@ -19,7 +19,7 @@ use Rattle.posit.specs.declared.float.Floated.the-variants.{Value, Nar}
 use Rattle.posit.specs.declared.answer.Answer.{Answer}
 use Rattle.posit.specs.declared.to_float.Floating.{Floating}
 use Rattle.posit.specs.Format.{Format, isFormat}
-use Rattle.posit.specs.Refusal.{Verdict}
+use Rattle.call.specs.Verdict.{Verdict}
 use Rattle.posit.specs.Rounding.{zero-gives-zero, posit-gives-itself}
 use Rattle.posit.specs.Decoding.{OddForm, finiteValue}
 use Rattle.posit.specs.Floats.{FromFloat, FromFloatOf, ExactFloat, ToFloat, FloatingOf}

@@ -15,7 +15,8 @@ use Rattle.posit.specs.Format.{Format, nar}
 use Rattle.posit.specs.Value.{value}
 use Rattle.posit.specs.Rounding.{zero-gives-zero}
 use Rattle.posit.specs.Magnitudes.{Unpacks, ProductOf, RoundsEach}
-use Rattle.posit.specs.Operation.{times, Operates}
+use Rattle.call.specs.Operation.{times}
+use Rattle.posit.specs.Operation.{Operates}
 use Rattle.posit.proofs.SmallScale.{kept}
 use Rattle.posit.proofs.Operated.{no-number, a-number, nar-left, nar-right, both-numbers, zero-not-nar, zero-value, is-finite, is-small}
 use Rattle.posit.proofs.SignedResult.{product-signs, rounds-signed}

@@ -14,19 +14,7 @@ use Rattle.exact.proofs.Sum.{negᶠ-cong}
 use Rattle.posit.specs.Format.{Finite, maxPos, negated}
 use Rattle.posit.specs.Value.{value}
 use Rattle.posit.specs.Nearest.{nearest, nearestAbove, chosen}
-use Rattle.posit.specs.Rounding.{
-  Between,
-  Rounds,
-  zero-gives-zero,
-  posit-gives-itself,
-  beyond-maxPos,
-  within-minPos,
-  below-the-middle,
-  above-the-middle,
-  on-the-middle,
-  size,
-  withSignOf,
-}
+use Rattle.posit.specs.Rounding.{Between, Rounds, zero-gives-zero, posit-gives-itself, beyond-maxPos, within-minPos, below-the-middle, above-the-middle, on-the-middle, size, withSignOf}
 use Rattle.posit.proofs.Ends.{value-positive, value-negative, minPos-finite, maxPos-finite}
 use Rattle.posit.proofs.Patterns.{some-bit, two-bits, nar-large, below-nar, small-finite}
 use Rattle.posit.proofs.Mirror.{Side, below, above, side, negated-zero, negated-finite, negated-negated}

@@ -18,7 +18,8 @@ use Rattle.posit.specs.Rounding.{Rounds}
 use Rattle.posit.specs.Decoding.{OddForm, Decodes}
 use Rattle.posit.specs.Magnitudes.{SmallForm, Small, Unpacks}
 use Rattle.posit.specs.Arithmetic.{exactResult, hasNoNumber}
-use Rattle.posit.specs.Operation.{over, Operates}
+use Rattle.call.specs.Operation.{over}
+use Rattle.posit.specs.Operation.{Operates}
 use Rattle.posit.proofs.Ends.{value-zero}
 use Rattle.posit.proofs.Exactly.{never}
 

@@ -9,18 +9,7 @@ use Rattle.exact.proofs.Order.{<ᶠ-trans}
 use Rattle.exact.proofs.Sum.{negᶠ-<ᶠ, negᶠ-cong}
 use Rattle.posit.specs.Format.{Finite, maxPos, negated}
 use Rattle.posit.specs.Value.{value}
-use Rattle.posit.specs.Rounding.{
-  Between,
-  Rounds,
-  zero-gives-zero,
-  posit-gives-itself,
-  beyond-maxPos,
-  within-minPos,
-  below-the-middle,
-  above-the-middle,
-  on-the-middle,
-  middle,
-}
+use Rattle.posit.specs.Rounding.{Between, Rounds, zero-gives-zero, posit-gives-itself, beyond-maxPos, within-minPos, below-the-middle, above-the-middle, on-the-middle, middle}
 use Rattle.posit.proofs.Ends.{value-positive, minPos-finite, maxPos-finite}
 use Rattle.posit.proofs.Neighbours.{middle-negated}
 use Rattle.posit.proofs.Patterns.{some-bit, two-bits, nar-large, below-nar, negated-neighbours}

@@ -1,60 +1,24 @@
 -- The verdict of a call by its tests: each test that fails leaves the rest of the list, and the first that hits is the verdict.
-use mathlib.Core.Path.{_≡_, refl, sym, ap, _∙_, subst}
+use mathlib.Core.Path.{_≡_, refl, sym, ap, _∙_}
 use mathlib.Core.Bool.{Bool, true, false, not, _&&_}
-use mathlib.Core.Logic.{_≢_}
 use mathlib.Core.List.{List, [], _∷_}
-use Prim.Native.Nat.{ℕ, zero, suc, _^_, _≤_, _<_}
+use Prim.Native.Nat.{ℕ, suc, _^_, _≤_, _<_}
 use native.Mathlib.Nat.{suc-ne-zero}
-use lib.Dec.{T, leb, ltb}
+use lib.Dec.{leb}
 use borrow.Author.Tests.{le-leb, lt-leb, lt-ltb, le-ltb, leb-true, leb-false}
 use Rattle.posit.specs.Format.{Format, isFormat}
-use Rattle.posit.specs.Refusal.{Verdict, Test, Answers, done, firstHit, left, right, formatTest, operationTest, positTest, verdictOfFormat, verdictOfOne, verdictOfTwo, verdictOfOperation}
-use Rattle.posit.specs.Operation.{Says}
-
--- ---- the first hit
-pub hits : (t : Test) (ts : List Test) → t .hit ≡ true → firstHit (t ∷ ts) ≡ t .gives
-unfolding firstHit
-hits t ts e = rw e
-
-pub passes : (t : Test) (ts : List Test) → t .hit ≡ false → firstHit (t ∷ ts) ≡ firstHit ts
-unfolding firstHit
-passes t ts e = rw e
-
-pub none-hits : firstHit [] ≡ done
-unfolding firstHit
-none-hits = refl
-
--- ---- an answer by its verdict
-pub answers-refused : {v : Verdict} {Right Refused : Type 0} {k place : ℕ} → v ≡ record { number = suc k; place = place } → Refused → Answers v (suc k) place Right Refused
-answers-refused {k = k} e f =
-    record {
-      number-is = sym (ap (λ (x : Verdict). x .number) e);
-      place-is = sym (ap (λ (x : Verdict). x .place) e);
-      right = λ h. absurd (suc-ne-zero k (sym (ap (λ (x : Verdict). x .number) e) ∙ h));
-      refused = λ h. f;
-    }
-
-pub answers-done : {v : Verdict} {Right Refused : Type 0} → v ≡ done → Right → Answers v 0 0 Right Refused
-answers-done e r =
-    record {
-      number-is = sym (ap (λ (x : Verdict). x .number) e);
-      place-is = sym (ap (λ (x : Verdict). x .place) e);
-      right = λ h. r;
-      refused = λ h. absurd (h (ap (λ (x : Verdict). x .number) e));
-    }
-
-pub says : {v : Verdict} {k place : ℕ} → v ≡ record { number = k; place = place } → Says v (record { number = k; place = place })
-says e = record { number = sym (ap (λ (x : Verdict). x .number) e); place = sym (ap (λ (x : Verdict). x .place) e) }
+use Rattle.call.specs.Verdict.{Verdict, Test, done, firstHit}
+use Rattle.call.specs.Place.{left, right}
+use Rattle.posit.specs.Refusal.{formatTest, positTest, verdictOfFormat, verdictOfOne, verdictOfTwo, verdictOfOperation}
+use Rattle.call.specs.Operation.{operationTest}
+use Rattle.call.proofs.Facts.{both-parts}
+use Rattle.call.proofs.FirstHit.{hits, passes, none-hits}
 
 -- ---- the format test, and a format from it
-both : (a b : Bool) → (a && b) ≡ true → (a ≡ true) × (b ≡ true)
-both true b e = (refl, e)
-both false b e = absurd (subst T (sym e) tt)
-
 pub format-of : {n es : ℕ} → isFormat n es ≡ true → Format n es
 format-of {n} {es} e =
-    let s = both (leb 3 n && leb n 16) (leb es 2) e in
-    let t = both (leb 3 n) (leb n 16) (s .0) in
+    let s = both-parts (leb 3 n && leb n 16) (leb es 2) e in
+    let t = both-parts (leb 3 n) (leb n 16) (s .0) in
     record { wide-enough = leb-true 3 n (t .0); not-too-wide = leb-true n 16 (t .1); exponent-fits = leb-true es 2 (s .1) }
 
 format-hits : (n es : ℕ) (ts : List Test) → isFormat n es ≡ false → firstHit (formatTest n es ∷ ts) ≡ record { number = 1; place = 0 }

@@ -6,7 +6,8 @@ use Rattle.posit.specs.declared.compare.Order.{Order}
 use Rattle.posit.specs.declared.compare.Order.the-variants.{Less, Equal, Greater}
 use Rattle.posit.specs.declared.compare.Comparison.{Comparison}
 use Rattle.posit.specs.Value.{signed}
-use Rattle.posit.specs.Refusal.{Answers, verdictOfTwo}
+use Rattle.call.specs.Verdict.{Answers}
+use Rattle.posit.specs.Refusal.{verdictOfTwo}
 
 abbrev pub Compares : ℕ → ℕ → ℕ → Order → Type 0
 Compares n p q Less = signed n p <ℤ signed n q

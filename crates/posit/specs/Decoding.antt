@@ -4,12 +4,13 @@ use mathlib.Core.Bool.{Bool, true, false}
 use mathlib.Core.Logic.{_≢_}
 use Prim.Native.Nat.{ℕ, _%_}
 use lib.IntN.{ℤ, pos, negℤ}
-use Rattle.exact.specs.Fraction.{Fraction, _≈_, whole, scaled}
+use Rattle.exact.specs.Fraction.{Fraction, _≈_, scaled}
 use Rattle.posit.specs.declared.decoded.Decoded.{Decoded}
 use Rattle.posit.specs.declared.decoded.Decoded.the-variants.{Zero, Nar, Finite}
 use Rattle.posit.specs.declared.decode.Decoding.{Decoding}
 use Rattle.posit.specs.declared.answer.Answer.{Answer}
-use Rattle.posit.specs.Refusal.{Answers, verdictOfFormat, verdictOfOne}
+use Rattle.call.specs.Verdict.{Answers}
+use Rattle.posit.specs.Refusal.{verdictOfFormat, verdictOfOne}
 use Rattle.posit.specs.Format as Format
 use Rattle.posit.specs.Format.{nar}
 use Rattle.posit.specs.Value.{value}

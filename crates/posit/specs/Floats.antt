@@ -16,7 +16,8 @@ use Rattle.posit.specs.Value.{value}
 use Rattle.posit.specs.Rounding.{Rounds}
 use Rattle.posit.specs.Decoding.{finiteValue}
 use Rattle.posit.specs.Magnitudes.{withSignᶠ}
-use Rattle.posit.specs.Refusal.{Answers, verdictOfFormat, verdictOfOne}
+use Rattle.call.specs.Verdict.{Answers}
+use Rattle.posit.specs.Refusal.{verdictOfFormat, verdictOfOne}
 
 -- +0.0, told from -0.0 by its sign
 abbrev pub plusZero : Float

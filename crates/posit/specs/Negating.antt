@@ -3,7 +3,8 @@ use mathlib.Core.Path.{_≡_}
 use Prim.Native.Nat.{ℕ}
 use Rattle.posit.specs.declared.answer.Answer.{Answer}
 use Rattle.posit.specs.Format.{negated}
-use Rattle.posit.specs.Refusal.{Answers, verdictOfOne}
+use Rattle.call.specs.Verdict.{Answers}
+use Rattle.posit.specs.Refusal.{verdictOfOne}
 
 -- what `negate` answers
 abbrev pub NegationOf : ℕ → ℕ → ℕ → Answer → Type 0

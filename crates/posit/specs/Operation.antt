@@ -3,25 +3,12 @@ use mathlib.Core.Path.{_≡_}
 use mathlib.Core.Bool.{true, false}
 use Prim.Native.Nat.{ℕ}
 use Rattle.posit.specs.declared.answer.Answer.{Answer}
-use Rattle.posit.specs.declared.inner.judge.Judged.{Judged}
 use Rattle.posit.specs.Format.{nar}
 use Rattle.posit.specs.Value.{value}
 use Rattle.posit.specs.Rounding.{Rounds}
 use Rattle.posit.specs.Arithmetic.{exactResult, hasNoNumber}
-use Rattle.posit.specs.Refusal.{Verdict, Answers, verdictOfOperation}
-
--- the operations' numbers
-abbrev pub plus : ℕ
-plus = 0
-
-abbrev pub minus : ℕ
-minus = 1
-
-abbrev pub times : ℕ
-times = 2
-
-abbrev pub over : ℕ
-over = 3
+use Rattle.call.specs.Verdict.{Answers}
+use Rattle.posit.specs.Refusal.{verdictOfOperation}
 
 -- r is what operation op answers for the posits p and q
 pub record Operates (n es op p q r : ℕ) : Type 0 where
@@ -39,8 +26,3 @@ doneWith p = record { number = 0; place = 0; posit = p }
 
 abbrev pub refusedWith : ℕ → ℕ → Answer
 refusedWith number place = record { number = number; place = place; posit = 0 }
-
--- a verdict as a pair of numbers
-pub record Says (v : Verdict) (r : Judged) : Type 0 where
-  pub number : r .number ≡ v .number
-  pub place : r .place ≡ v .place

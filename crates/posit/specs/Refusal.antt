@@ -1,54 +1,21 @@
--- Refusals: the number that a call comes back with and its place. The first test that hits gives both; where none hits, the call is done.
-use mathlib.Core.Bool.{Bool, true, false, not}
-use mathlib.Core.List.{List, [], _∷_}
-use mathlib.Core.Path.{_≡_}
-use mathlib.Core.Logic.{_≢_}
+-- The tests of calls on posits, in the order in which they are made.
+use mathlib.Core.Bool.{not}
+use mathlib.Core.List.{[], _∷_}
 use Prim.Native.Nat.{ℕ, _^_}
-use lib.Dec.{leb, ltb}
+use lib.Dec.{leb}
+use Rattle.call.specs.Number.{outsideLimits, tooLarge}
+use Rattle.call.specs.Place.{left, right}
+use Rattle.call.specs.Verdict.{Verdict, Test, firstHit}
+use Rattle.call.specs.Operation.{operationTest}
 use Rattle.posit.specs.Format.{isFormat}
-
-pub record Verdict : Type 0 where
-  pub number : ℕ
-  pub place : ℕ
-
--- number 0: done, at place 0
-abbrev pub done : Verdict
-done = record { number = 0; place = 0 }
-
--- a test with the number and the place that it gives where it hits
-pub record Test : Type 0 where
-  pub hit : Bool
-  pub gives : Verdict
-
-unfoldable pub firstHit : List Test → Verdict
-firstHit [] = done
-firstHit (t ∷ ts) = elim (t .hit) [ true ↦ t .gives | false ↦ firstHit ts ]
-
--- a call comes back with the number and place of its verdict; where it is done its value is right, and refused it is the value for refusals
-pub record Answers (v : Verdict) (number place : ℕ) (Right Refused : Type 0) : Type 0 where
-  pub number-is : number ≡ v .number
-  pub place-is : place ≡ v .place
-  pub right : v .number ≡ 0 → Right
-  pub refused : v .number ≢ 0 → Refused
-
--- ---- the tests of calls on posits; the left operand's place is 0, and the right one's is 1
-abbrev pub left : ℕ
-left = 0
-
-abbrev pub right : ℕ
-right = 1
 
 -- 1: n or es outside the format limits
 abbrev pub formatTest : ℕ → ℕ → Test
-formatTest n es = record { hit = not (isFormat n es); gives = record { number = 1; place = 0 } }
-
--- 2: operation number above 3
-abbrev pub operationTest : ℕ → Test
-operationTest op = record { hit = ltb 3 op; gives = record { number = 2; place = 0 } }
+formatTest n es = record { hit = not (isFormat n es); gives = record { number = outsideLimits; place = left } }
 
 -- 3: posit of 2^n or more
 abbrev pub positTest : ℕ → ℕ → ℕ → Test
-positTest n place p = record { hit = leb (2 ^ n) p; gives = record { number = 3; place = place } }
+positTest n place p = record { hit = leb (2 ^ n) p; gives = record { number = tooLarge; place = place } }
 
 -- ---- and the calls
 -- encode, from a float

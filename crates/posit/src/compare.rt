@@ -1,13 +1,13 @@
 // Comparing: posits order as signed patterns, NaR below all else.
 ghost use Prim.Native.Nat.{_^_, _<_, _≤_};
 ghost use Rattle.posit.specs.Comparing.{Compares, ComparisonOf};
-use super::answer::DONE;
-use super::answer::LEFT;
-use super::answer::OUTSIDE_LIMITS;
-use super::answer::RIGHT;
-use super::answer::TOO_LARGE;
 use super::inner::format::is_format;
 use super::inner::power::power32;
+use call::number::DONE;
+use call::number::OUTSIDE_LIMITS;
+use call::number::TOO_LARGE;
+use call::place::LEFT;
+use call::place::RIGHT;
 
 pub enum Order {
     Less,

@@ -1,13 +1,13 @@
 // Decoding: a pattern as zero, NaR, or sign, scale and odd fraction.
 ghost use Rattle.posit.specs.Decoding.{DecodingOf};
-use super::answer::DONE;
-use super::answer::LEFT;
-use super::answer::OUTSIDE_LIMITS;
-use super::answer::TOO_LARGE;
 use super::decoded::Decoded;
 use super::inner::format::is_format;
 use super::inner::power::power32;
 use super::inner::unpack::unpack;
+use call::number::DONE;
+use call::number::OUTSIDE_LIMITS;
+use call::number::TOO_LARGE;
+use call::place::LEFT;
 
 pub struct Decoding {
     pub number: u32,

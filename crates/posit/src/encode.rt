@@ -1,16 +1,9 @@
 // Encoding: zero, NaR, or any sign, scale and fraction, rounded to a posit.
-ghost use mathlib.Core.Path.{_≡_};
-ghost use mathlib.Core.Logic.{_≢_};
 ghost use Prim.Native.Nat.{_<_};
 ghost use Rattle.posit.specs.Format.{Format};
-ghost use Rattle.posit.specs.Rounding.{Rounds};
-ghost use Rattle.posit.specs.Decoding.{Encodes, EncodingOf, finiteValue};
-ghost use Rattle.posit.specs.Locating.{Locates};
+ghost use Rattle.posit.specs.Decoding.{Encodes, EncodingOf};
 ghost use Rattle.posit.specs.Parts.{LocatesScaled};
 use super::answer::Answer;
-use super::answer::DONE;
-use super::answer::LEFT;
-use super::answer::OUTSIDE_LIMITS;
 use super::decoded::Decoded;
 use super::inner::format::is_format;
 use super::inner::locate::Located;
@@ -18,6 +11,9 @@ use super::inner::locate::locate;
 use super::inner::power::power32;
 use super::inner::round::rounded;
 use super::inner::round::with_sign;
+use call::number::DONE;
+use call::number::OUTSIDE_LIMITS;
+use call::place::LEFT;
 
 // Zero bits put below a fraction, so that it has as many as `locate` asks for, and 2 to that power.
 const SPARE_BITS: u64 = 29;

@@ -1,12 +1,12 @@
 // From a 64-bit float, by its exact value; NaN and the infinities give NaR.
 ghost use Rattle.posit.specs.Floats.{FromFloatOf};
 use super::answer::Answer;
-use super::answer::DONE;
-use super::answer::LEFT;
-use super::answer::OUTSIDE_LIMITS;
 use super::inner::float_bits::from_pattern;
 use super::inner::format::is_format;
 use super::inner::power::power32;
+use call::number::DONE;
+use call::number::OUTSIDE_LIMITS;
+use call::place::LEFT;
 
 pub fn from_float(n: u32, es: u32, x: f64) -> Answer
     ensures { λ r. ⌜ FromFloatOf n es x r ⌝ }

@@ -1,17 +1,18 @@
 // The four operations on two posits: the exact result of their values, rounded once.
 ghost use mathlib.Core.Path.{_≡_};
-ghost use Rattle.posit.specs.Operation.{OperationOf, plus, minus, times, over, doneWith, refusedWith};
+ghost use Rattle.posit.specs.Operation.{OperationOf, doneWith, refusedWith};
+ghost use Rattle.call.specs.Operation.{plus, minus, times, over};
 use super::answer::Answer;
-use super::answer::DONE;
-use super::answer::LEFT;
-use super::answer::NO_OPERATION;
-use super::answer::OUTSIDE_LIMITS;
 use super::inner::add::add_posits;
 use super::inner::add::subtract_posits;
 use super::inner::divide::divide_posits;
 use super::inner::format::is_format;
 use super::inner::judge::judge;
 use super::inner::multiply::multiply_posits;
+use call::number::DONE;
+use call::number::NO_OPERATION;
+use call::number::OUTSIDE_LIMITS;
+use call::place::LEFT;
 
 fn refused(number: u32, place: u32) -> Answer
     ensures { λ r. ⌜ r ≡ refusedWith number place ⌝ }

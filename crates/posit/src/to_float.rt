@@ -2,16 +2,16 @@
 ghost use Prim.Native.Nat.{_^_, _<_};
 ghost use Rattle.posit.specs.Format.{Format};
 ghost use Rattle.posit.specs.Floats.{ToFloat, FloatingOf};
-use super::answer::DONE;
-use super::answer::LEFT;
-use super::answer::OUTSIDE_LIMITS;
-use super::answer::TOO_LARGE;
 use super::decoded::Decoded;
 use super::float::Floated;
 use super::inner::float_bits::float_of;
 use super::inner::format::is_format;
 use super::inner::power::power32;
 use super::inner::unpack::unpack;
+use call::number::DONE;
+use call::number::OUTSIDE_LIMITS;
+use call::number::TOO_LARGE;
+use call::place::LEFT;
 
 pub struct Floating {
     pub number: u32,

@@ -10,7 +10,7 @@ use Rattle.bound.specs.Extent.{Extent, span, Spans, exactly}
 use Rattle.bound.specs.Fractions.{fractions}
 use Rattle.bound.proofs.Bound.{has-member}
 use Rattle.bound.proofs.Standing.{lets-in-all, narrowest-start, narrowest-end}
-use Rattle.posit.specs.Arithmetic.{divide}
+use Rattle.call.specs.Operation.{over}
 use Rattle.word.specs.Word.{kind, empty, emptyWord, startOf, endOf}
 use Rattle.word.specs.Member.{Real, Member, AfterStart, BeforeEnd}
 use Rattle.word.specs.Numbered.{numberOf}
@@ -102,7 +102,7 @@ spans-some (exactly p q) = has-member fractions p
 
 -- ---- every set that document 01 asks a range of has exact bounds: the results of an operation, the negatives of a range's members, and a reading
 module _ (n es : ℕ) (wide : 3 ≤ n) (w : ℕ) where
-  pub results-smallest-iff-ends : (op a b : ℕ) → op ≤ divide → {z : Fraction} → Result n es op a b z
+  pub results-smallest-iff-ends : (op a b : ℕ) → op ≤ over → {z : Fraction} → Result n es op a b z
       → Smallest n es (Result n es op a b) w ↔ DemandedEnds n es (Result n es op a b) w
   results-smallest-iff-ends op a b known r = smallest-iff-demanded-ends n es wide (results-span n es a b op known) r w
 

@@ -13,10 +13,13 @@ use lib.Dec.{eqb}
 use borrow.Author.Tests.{lt-ltb, le-ltb, lt-leb, not-false}
 use Rattle.exact.specs.Fraction.{whole}
 use Rattle.posit.specs.Format.{Format, isFormat}
-use Rattle.posit.specs.Arithmetic.{divide}
-use Rattle.posit.specs.Operation.{plus, minus, times, over}
-use Rattle.posit.specs.Refusal.{Verdict, Test, firstHit, left, right, formatTest, operationTest}
-use Rattle.posit.proofs.Verdicts.{hits, passes, none-hits, answers-done, answers-refused, format-of}
+use Rattle.call.specs.Operation.{over, plus, minus, times, operationTest}
+use Rattle.call.specs.Verdict.{Verdict, Test, firstHit}
+use Rattle.call.specs.Place.{left, right}
+use Rattle.posit.specs.Refusal.{formatTest}
+use Rattle.call.proofs.FirstHit.{hits, passes, none-hits}
+use Rattle.call.proofs.Answered.{answers-done, answers-refused, refused-as-said}
+use Rattle.posit.proofs.Verdicts.{format-of}
 use Rattle.word.specs.declared.answer.WordAnswer.{WordAnswer}
 use Rattle.word.specs.declared.inner.span.Span.{Span}
 use Rattle.word.specs.declared.inner.operands.Operands.{Operands}
@@ -30,7 +33,8 @@ use Rattle.cell.specs.Cells.{sumCells}
 use Rattle.signs.specs.Signs.{hasZero, productCells, quotientCells}
 use Rattle.word.specs.Taking.{TakesBoth}
 use Rattle.word.specs.Computed.{answerOf}
-use Rattle.word.proofs.Verdicts.{refusal-stays, passed, says-by, refused-as-said, ranges-format, ranges-real}
+use Rattle.word.proofs.Verdicts.{refusal-stays, passed, ranges-format, ranges-real}
+use Rattle.call.proofs.Said.{says-by}
 use Rattle.word.proofs.Taking.{refused-both, passed-both, both-refused}
 use Rattle.word.proofs.RealWords.{cells-at-hand, real-cells-at-hand}
 use Rattle.signs.proofs.HasZero.{zero-member}
@@ -116,7 +120,7 @@ module _ (n es a b : ℕ) {o : Operands} (t : TakesBoth n es a b o) where
         rw i (refused-as-said (says-by (operation-refused n es op a b known (λ z. f .refuses (f .number-is ∙ z))) (both-refused n es a b t e)) (f .refuses) refl)
 
     pub call-done :
-        {x y : Span} → o ≡ operands.Cells x y → {u : WordAnswer} {w : ℕ} → (eqb op divide && isMember n es b (whole (pos 0))) ≡ false → w ≡ answerOf n es op a b
+        {x y : Span} → o ≡ operands.Cells x y → {u : WordAnswer} {w : ℕ} → (eqb op over && isMember n es b (whole (pos 0))) ≡ false → w ≡ answerOf n es op a b
         → u ≡ doneWord w → OperationOf n es op a b u
     call-done e k h i =
         rw (i, h)
@@ -147,9 +151,9 @@ module _ (n es a b : ℕ) {o : Operands} (t : TakesBoth n es a b o) where
         let k = passed-both n es a b t e in
         call-done over (omega arith) e (sym (zero-of-right e) ∙ z) (quotient-found n es (f .wide-enough) q r (k .left-cells) (k .right-cells) h)
 
-  pub call-zero-divisor : {x y : Span} → o ≡ operands.Cells x y → isMember n es b (whole (pos 0)) ≡ true → {u : WordAnswer} → u ≡ refusedWord 5 1 → OperationOf n es divide a b u
+  pub call-zero-divisor : {x y : Span} → o ≡ operands.Cells x y → isMember n es b (whole (pos 0)) ≡ true → {u : WordAnswer} → u ≡ refusedWord 5 1 → OperationOf n es over a b u
   call-zero-divisor e k i =
-      rw i (answers-refused (operation-divisor n es divide a b (le-refl 3) (passed-both n es a b t e .passes) ∙ hits (divisorTest n es divide b) _ k) refl)
+      rw i (answers-refused (operation-divisor n es over a b (le-refl 3) (passed-both n es a b t e .passes) ∙ hits (divisorTest n es over b) _ k) refl)
 
 -- ---- so a call has one answer, refused or not
 module _ (n es op a b : ℕ) {x y : WordAnswer} (p : OperationOf n es op a b x) (q : OperationOf n es op a b y) where

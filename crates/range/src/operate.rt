@@ -1,22 +1,22 @@
 // The four operations on two ranges: the smallest range that holds all exact results.
 ghost use mathlib.Core.Path.{_≡_};
-ghost use Rattle.posit.specs.Operation.{plus, minus, times, over};
+ghost use Rattle.call.specs.Operation.{plus, minus, times, over};
 ghost use Rattle.word.specs.Calls.{OperationOf, doneWord, refusedWord};
-use word::answer::WordAnswer;
-use word::answer::ZERO_DIVISOR;
+use call::number::DONE;
+use call::number::NO_OPERATION;
+use call::number::OUTSIDE_LIMITS;
+use call::number::ZERO_DIVISOR;
+use call::place::LEFT;
+use call::place::RIGHT;
 use cell::inner::add::add_cells;
 use cell::inner::add::subtract_word;
+use posit::inner::format::is_format;
 use signs::inner::divide::divide_cells;
 use signs::inner::multiply::multiply_cells;
+use signs::inner::signs::has_zero;
+use word::answer::WordAnswer;
 use word::inner::operands::Operands;
 use word::inner::operands::take_words;
-use signs::inner::signs::has_zero;
-use posit::answer::DONE;
-use posit::answer::LEFT;
-use posit::answer::NO_OPERATION;
-use posit::answer::OUTSIDE_LIMITS;
-use posit::answer::RIGHT;
-use posit::inner::format::is_format;
 
 fn refused(number: u32, place: u32) -> WordAnswer
     ensures { λ r. ⌜ r ≡ refusedWord number place ⌝ }

@@ -15,7 +15,7 @@ use Rattle.posit.specs.Format.{Format, nar}
 use Rattle.posit.specs.Value.{value}
 use Rattle.posit.specs.Decoding.{finiteValue}
 use Rattle.posit.specs.Floats.{ExactFloat}
-use Rattle.posit.specs.Refusal.{Verdict, done}
+use Rattle.call.specs.Verdict.{Verdict, done}
 use Rattle.posit.specs.declared.float.Floated.the-variants.{Value}
 use Rattle.posit.proofs.FloatExact.{zero-bits}
 use Rattle.posit.proofs.FloatTrip.{same-float}

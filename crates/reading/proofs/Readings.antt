@@ -23,11 +23,13 @@ use Rattle.bound.proofs.Extent.{interval-spans, spans-of-same-set}
 use Rattle.posit.specs.Format.{isFormat}
 use Rattle.posit.specs.Decoding.{finiteValue}
 use Rattle.posit.specs.Floats.{IsExactly, NoNumber}
-use Rattle.posit.specs.Refusal.{Verdict, done, formatTest}
+use Rattle.call.specs.Verdict.{Verdict, done}
+use Rattle.posit.specs.Refusal.{formatTest}
 use Rattle.posit.proofs.FloatExact.{no-nan}
 use Rattle.posit.proofs.Operated.{zero-value, zero-not-nar}
 use Rattle.posit.proofs.Patterns.{some-bit}
-use Rattle.posit.proofs.Verdicts.{hits, passes, none-hits, format-of}
+use Rattle.call.proofs.FirstHit.{hits, passes, none-hits}
+use Rattle.posit.proofs.Verdicts.{format-of}
 use Rattle.word.specs.declared.answer.WordAnswer.{WordAnswer}
 use Rattle.reading.specs.declared.reading.Reading.{Reading}
 use Rattle.word.specs.Smallest.{IsAnswer}

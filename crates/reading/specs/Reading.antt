@@ -9,7 +9,9 @@ use Rattle.exact.specs.Fraction.{Fraction, _≤ᶠ_}
 use Rattle.bound.specs.Bound.{Bound, none, closed-at, open-at}
 use Rattle.posit.specs.Decoding.{finiteValue}
 use Rattle.posit.specs.Floats.{plusZero, ExactFloat}
-use Rattle.posit.specs.Refusal.{Verdict, Test, Answers, firstHit, formatTest}
+use Rattle.call.specs.Number.{wrongReading}
+use Rattle.call.specs.Verdict.{Verdict, Test, Answers, firstHit}
+use Rattle.posit.specs.Refusal.{formatTest}
 use Rattle.word.specs.declared.answer.WordAnswer.{WordAnswer}
 use Rattle.reading.specs.declared.reading.Reading.{Reading}
 use Rattle.reading.specs.declared.reading.Outgoing.{Outgoing}
@@ -50,7 +52,7 @@ badReading low high = isNan low || (isNan high || (isInfinity false low || (isIn
 
 -- 6: a bad reading
 abbrev pub readingTest : Float → Float → Test
-readingTest low high = record { hit = badReading low high; gives = record { number = 6; place = 0 } }
+readingTest low high = record { hit = badReading low high; gives = record { number = wrongReading; place = 0 } }
 
 unfoldable pub verdictOfReading : ℕ → ℕ → Float → Float → Verdict
 verdictOfReading n es low high = firstHit (formatTest n es ∷ readingTest low high ∷ [])

@@ -1,15 +1,19 @@
 // Readings, pairs of 64-bit floats, come in as ranges, and ranges go out as floats with their marks.
 ghost use mathlib.Core.Path.{_≡_};
-ghost use mathlib.Core.Bool.{Bool, false};
+ghost use mathlib.Core.Bool.{false};
 ghost use Rattle.posit.specs.Format.{Format};
 ghost use Rattle.word.specs.Member.{Real};
 ghost use Rattle.word.specs.Smallest.{IsAnswer};
 ghost use Rattle.reading.specs.Reading.{Between, badReading, TakenIn, DoneOut, GivenOut};
-use word::answer::BAD_READING;
-use word::answer::WordAnswer;
 use super::inner::float_end::bad_reading;
 use super::inner::float_end::end_float;
 use super::inner::float_end::float_cell;
+use call::number::BAD_READING;
+use call::number::DONE;
+use call::number::OUTSIDE_LIMITS;
+use call::place::LEFT;
+use posit::inner::format::is_format;
+use word::answer::WordAnswer;
 use word::inner::judge::judge_range;
 use word::inner::span::Span;
 use word::inner::span::top_cell;
@@ -17,10 +21,6 @@ use word::inner::span::word_of;
 use word::inner::word::cells_of;
 use word::inner::word::end_tile;
 use word::inner::word::start_tile;
-use posit::answer::DONE;
-use posit::answer::LEFT;
-use posit::answer::OUTSIDE_LIMITS;
-use posit::inner::format::is_format;
 
 pub struct Reading {
     pub low: f64,

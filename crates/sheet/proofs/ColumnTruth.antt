@@ -6,12 +6,12 @@ use native.Mathlib.Omega.{arith}
 use lib.ListN.{length, getD}
 use Rattle.word.specs.Smallest.{IsAnswer, Result}
 use Rattle.word.proofs.Computed.{answer-computed}
-use Rattle.sheet.specs.declared.counted.Counted.{Counted}
+use Rattle.call.specs.declared.counted.Counted.{Counted}
 use Rattle.sheet.specs.Accepted.{ColumnsAccepted}
 use Rattle.sheet.specs.Column.{verdictOfColumns, answersOf}
-use Rattle.sheet.specs.Written.{Writes}
+use Rattle.call.specs.Written.{Writes}
 use Rattle.sheet.proofs.Pairs.{length-answers, answer-at}
-use Rattle.sheet.proofs.WrittenAt.{written-at}
+use Rattle.call.proofs.WrittenAt.{written-at}
 use Rattle.sheet.proofs.ColumnVerdict.{columns-done-exactly}
 
 module _ (n es op : ℕ) (left right : List ℕ) (row lent : ℕ) where

@@ -5,12 +5,12 @@ use mathlib.Core.List.{List, _++_}
 use Prim.Native.Nat.{ℕ}
 use native.Mathlib.Nat.{zero-add}
 use lib.ListN.{length, getD}
-use Rattle.posit.specs.Refusal.{Verdict, Test, firstHit}
+use Rattle.call.specs.Verdict.{Verdict, Test, firstHit}
 use Rattle.sheet.specs.Accepted.{ColumnFits, ColumnsAccepted}
 use Rattle.sheet.specs.Column.{columnLimits, pairTests, pairsTests, verdictOfColumns}
-use Rattle.sheet.proofs.Tests.{Passing, Refusal, gives-none, gives-one, gives-both, refusal-given, done-exactly, passing-parts, passing-both, refused-by-parts}
-use Rattle.sheet.proofs.Blocks.{joined, joined-same, all-passing, RefusedAt, refused-exactly-at}
-use Rattle.sheet.proofs.Verdicts.{word-place}
+use Rattle.call.proofs.Tests.{Passing, Refusal, gives-none, gives-one, gives-both, refusal-given, done-exactly, passing-parts, passing-both, refused-by-parts}
+use Rattle.call.proofs.Blocks.{joined, joined-same, all-passing, RefusedAt, refused-exactly-at}
+use Rattle.word.proofs.WordTests.{word-place}
 use Rattle.sheet.proofs.Limits.{column-refusing, column-fits, column-passing}
 use Rattle.sheet.proofs.Pairs.{pair-refusing, pairs-refusing, pair-fits, fits-pair, pairs-joined, pair-passes}
 

@@ -11,7 +11,7 @@ use Rattle.sheet.specs.File.{SheetFile, FileHolds, Bytes, headBytes, wor
 use Rattle.sheet.specs.Refusal.{mostInputs, mostSteps}
 use Rattle.sheet.specs.Sheet.{Step, stepsOf}
 use Rattle.sheet.specs.Accepted.{FileFits}
-use Rattle.sheet.proofs.Tests.{Passing, all-pass, one-passes}
+use Rattle.call.proofs.Tests.{Passing, all-pass, one-passes}
 use Rattle.sheet.proofs.Limits.{format-passes}
 use Rattle.sheet.proofs.FileTests.{file-fits, accepted-passes}
 use Rattle.sheet.proofs.LowFirst.{one-byte}

@@ -9,17 +9,17 @@ use lib.ListN.{length, getD, take, drop, length-drop}
 use lib.Seq.{take-all}
 use borrow.Author.Tests.{le-ltb, eq-eqb, ltb-false, eqb-true, not-false}
 use Rattle.posit.specs.Format.{isFormat}
-use Rattle.posit.specs.Refusal.{Verdict, firstHit}
+use Rattle.call.specs.Verdict.{Verdict, firstHit}
 use Rattle.posit.proofs.Verdicts.{format-of}
 use Rattle.sheet.specs.File.{hasMark, version, versionOf, widthOf, exponentSizeOf, inputCount, stepCount, headBytes, lengthOf, fileTest, countTest, inputsPart, stepsPart, fileOf, fileTests, verdictOfFile, rowsOfFile}
 use Rattle.sheet.specs.Refusal.{mostInputs, mostSteps}
 use Rattle.sheet.specs.Sheet.{stepsOf, rowsOf, sheetTests, verdictOfSheet}
-use Rattle.sheet.specs.Written.{Writes}
-use Rattle.sheet.specs.declared.counted.Counted.{Counted}
+use Rattle.call.specs.Written.{Writes}
+use Rattle.call.specs.declared.counted.Counted.{Counted}
 use Rattle.sheet.specs.Accepted.{FileFits}
-use Rattle.sheet.proofs.Tests.{Passing, all-pass, one-passes, Refusing, gives-none, one-refuses, head-passes, tail-passes, passing-skips, first-passes}
+use Rattle.call.proofs.Tests.{Passing, all-pass, one-passes, Refusing, gives-none, one-refuses, head-passes, tail-passes, passing-skips, first-passes}
 use Rattle.sheet.proofs.Limits.{format-passes}
-use Rattle.sheet.proofs.Verdicts.{either-false, both-parts}
+use Rattle.call.proofs.Facts.{either-false, both-parts}
 
 pub file-refusing : (file : List ℕ) → Refusing (fileTests file)
 file-refusing file = one-refuses refl (one-refuses refl (one-refuses refl (one-refuses refl (one-refuses refl (one-refuses refl gives-none)))))

@@ -3,11 +3,11 @@ use mathlib.Core.Path.{_≡_, sym, ap, _∙_}
 use mathlib.Core.Logic.{_↔_}
 use mathlib.Core.List.{List}
 use Prim.Native.Nat.{ℕ}
-use Rattle.posit.specs.Refusal.{Verdict, firstHit}
+use Rattle.call.specs.Verdict.{Verdict, firstHit}
 use Rattle.sheet.specs.Accepted.{SheetAccepted, FileAccepted}
 use Rattle.sheet.specs.File.{widthOf, exponentSizeOf, inputsPart, stepsPart, fileTests, verdictOfFile}
 use Rattle.sheet.specs.Sheet.{verdictOfSheet}
-use Rattle.sheet.proofs.Tests.{Passing, Refusal, passing-skips, refusal-stays}
+use Rattle.call.proofs.Tests.{Passing, Refusal, passing-skips, refusal-stays}
 use Rattle.sheet.proofs.FileTests.{file-fits, file-passes, accepted-passes}
 use Rattle.sheet.proofs.SheetVerdict.{sheet-done-exactly}
 

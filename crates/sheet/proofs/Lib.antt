@@ -1,6 +1,4 @@
-pub mod Tests
-pub mod Blocks
-pub mod Verdicts
+
 pub mod Limits
 pub mod Copies
 pub mod LowFirst
@@ -10,11 +8,9 @@ pub mod FileLayout
 pub mod Pairs
 pub mod Plains
 pub mod Steps
-pub mod Written
 pub mod Rows
 pub mod ExactRows
 pub mod Depends
-pub mod WrittenAt
 pub mod ColumnVerdict
 pub mod ColumnTruth
 pub mod SheetVerdict

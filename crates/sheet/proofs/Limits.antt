@@ -10,8 +10,8 @@ use Rattle.sheet.specs.Refusal.{longestColumn, mostInputs, mostSteps, st
 use Rattle.sheet.specs.Accepted.{ColumnFits, SheetFits}
 use Rattle.sheet.specs.Column.{columnLimits}
 use Rattle.sheet.specs.Sheet.{sheetLimits}
-use Rattle.sheet.proofs.Tests.{Passing, all-pass, one-passes, Refusing, gives-none, one-refuses, head-passes, tail-passes}
-use Rattle.sheet.proofs.Verdicts.{either-true, either-false}
+use Rattle.call.proofs.Tests.{Passing, all-pass, one-passes, Refusing, gives-none, one-refuses, head-passes, tail-passes}
+use Rattle.call.proofs.Facts.{either-true, either-false}
 
 -- ---- 7 for columns
 module _ (left right : ℕ) where

@@ -11,42 +11,44 @@ use lib.ListN.{length, getD, drop, drop-of-length-le}
 use lib.Seq.{drop-cons}
 use borrow.Author.Tests.{eq-eqb, ne-eqb, eqb-true}
 use Rattle.exact.specs.Fraction.{whole}
-use Rattle.posit.specs.Arithmetic.{divide}
-use Rattle.posit.specs.Refusal.{Test}
+use Rattle.call.specs.Operation.{over}
+use Rattle.call.specs.Verdict.{Test}
 use Rattle.word.specs.Member.{isMember}
 use Rattle.word.specs.Computed.{answerOf}
-use Rattle.sheet.specs.Refusal.{wordTests, holdsZero, divisorTestAt}
+use Rattle.word.specs.Refusal.{wordTests}
+use Rattle.sheet.specs.Refusal.{holdsZero, divisorTestAt}
 use Rattle.sheet.specs.Accepted.{PairFits}
 use Rattle.sheet.specs.Column.{pairTests, pairsTests, answersOf}
-use Rattle.sheet.proofs.Tests.{Passing, all-pass, one-passes, head-passes, passing-parts, passing-both, Refusing, gives-none, one-refuses, gives-both}
-use Rattle.sheet.proofs.Blocks.{joined, joined-same, each-passes}
-use Rattle.sheet.proofs.Verdicts.{word-refusing, passing-real, real-passing, both-true}
+use Rattle.call.proofs.Tests.{Passing, all-pass, one-passes, head-passes, passing-parts, passing-both, Refusing, gives-none, one-refuses, gives-both}
+use Rattle.call.proofs.Blocks.{joined, joined-same, each-passes}
+use Rattle.word.proofs.WordTests.{word-refusing, passing-real, real-passing}
+use Rattle.call.proofs.Facts.{both-true}
 
 -- ---- 5
 module _ (n es place op w : ℕ) {b : Bool} (e : b ≡ isMember n es w (whole (pos 0))) where
-  pub divisor-hits : op ≡ divide → b ≡ true → divisorTestAt n es place op w .hit ≡ true
+  pub divisor-hits : op ≡ over → b ≡ true → divisorTestAt n es place op w .hit ≡ true
   unfolding holdsZero
-  divisor-hits d h = both-true (eqb op divide) _ (eq-eqb op divide d) (sym e ∙ h)
+  divisor-hits d h = both-true (eqb op over) _ (eq-eqb op over d) (sym e ∙ h)
 
   pub divisor-passes : b ≡ false → divisorTestAt n es place op w .hit ≡ false
   unfolding holdsZero
-  divisor-passes h = both-false (eqb op divide) _ (sym e ∙ h)
+  divisor-passes h = both-false (eqb op over) _ (sym e ∙ h)
     where
       both-false : (a b : Bool) → b ≡ false → (a && b) ≡ false
       both-false true b f = f
       both-false false b f = refl
 
-pub not-a-division : (n es place op w : ℕ) → (op ≡ divide → ⊥) → divisorTestAt n es place op w .hit ≡ false
-not-a-division n es place op w d = rw (ne-eqb op divide d)
+pub not-a-division : (n es place op w : ℕ) → (op ≡ over → ⊥) → divisorTestAt n es place op w .hit ≡ false
+not-a-division n es place op w d = rw (ne-eqb op over d)
 
-pub divisor-clear : (n es place op w : ℕ) → op ≡ divide → divisorTestAt n es place op w .hit ≡ false → holdsZero n es w ≡ false
-divisor-clear n es place op w d h = sym (ap (λ (b : Bool). b && holdsZero n es w) (eq-eqb op divide d)) ∙ h
+pub divisor-clear : (n es place op w : ℕ) → op ≡ over → divisorTestAt n es place op w .hit ≡ false → holdsZero n es w ≡ false
+divisor-clear n es place op w d h = sym (ap (λ (b : Bool). b && holdsZero n es w) (eq-eqb op over d)) ∙ h
 
-pub divisor-clears : (n es place op w : ℕ) → (op ≡ divide → holdsZero n es w ≡ false) → divisorTestAt n es place op w .hit ≡ false
-divisor-clears n es place op w h = go (eqb op divide) refl
+pub divisor-clears : (n es place op w : ℕ) → (op ≡ over → holdsZero n es w ≡ false) → divisorTestAt n es place op w .hit ≡ false
+divisor-clears n es place op w h = go (eqb op over) refl
   where
-    go : (b : Bool) → eqb op divide ≡ b → (eqb op divide && holdsZero n es w) ≡ false
-    go true e = rw (e, h (eqb-true op divide e))
+    go : (b : Bool) → eqb op over ≡ b → (eqb op over && holdsZero n es w) ≡ false
+    go true e = rw (e, h (eqb-true op over e))
     go false e = rw e
 
 -- ---- one pair

@@ -22,8 +22,8 @@ use Rattle.sheet.specs.Refusal.{holdsZero}
 use Rattle.sheet.specs.Accepted.{PairFits}
 use Rattle.sheet.specs.Column.{pairsTests}
 use Rattle.sheet.specs.Plains.{subtract, allPlain, takesPlainWay}
-use Rattle.sheet.proofs.Tests.{Passing, all-pass, passing-both}
-use Rattle.sheet.proofs.Verdicts.{both-parts}
+use Rattle.call.proofs.Tests.{Passing, all-pass, passing-both}
+use Rattle.call.proofs.Facts.{both-parts}
 use Rattle.sheet.proofs.Pairs.{fits-pair}
 
 regrouped : (a b c d : Bool) → (a && (b && (c && d))) ≡ (((a && b) && c) && d)

@@ -7,11 +7,11 @@ use native.Mathlib.Omega.{arith}
 use lib.ListN.{length, getD, take, List·getD-append}
 use lib.Seq.{getD-append-seam, take-append-seam, take-take, take-length}
 use Rattle.posit.specs.Format.{Format}
-use Rattle.posit.specs.Refusal.{Test}
+use Rattle.call.specs.Verdict.{Test}
 use Rattle.sheet.specs.Sheet.{Step, noStep, stepsOf, answerOfStep, withRow, rowsOf, stepTests, stepsTests}
 use Rattle.sheet.specs.Working.{Reals}
-use Rattle.sheet.proofs.Tests.{Passing, passing-parts}
-use Rattle.sheet.proofs.Blocks.{joined, joined-same}
+use Rattle.call.proofs.Tests.{Passing, passing-parts}
+use Rattle.call.proofs.Blocks.{joined, joined-same}
 use Rattle.sheet.proofs.Steps.{step-fits, row-real, reals-more, length-with-row}
 
 -- ---- how many

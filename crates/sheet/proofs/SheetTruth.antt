@@ -11,29 +11,30 @@ use lib.ListN.{length, getD, take}
 use lib.Seq.{length-take-le, getD-take}
 use Rattle.exact.specs.Fraction.{Fraction, _≈_}
 use Rattle.bound.proofs.Extent.{NoMember}
-use Rattle.posit.specs.Arithmetic.{divide, exactResult}
-use Rattle.posit.specs.Format.{Format}
-use Rattle.posit.specs.Refusal.{done, firstHit}
+use Rattle.call.specs.Operation.{over}
+use Rattle.posit.specs.Arithmetic.{exactResult}
+use Rattle.call.specs.Verdict.{done, firstHit}
 use Rattle.word.specs.Member.{Member}
 use Rattle.word.specs.Smallest.{IsAnswer, Result}
 use Rattle.word.specs.Computed.{answerOf}
 use Rattle.word.proofs.Computed.{answer-computed}
 use Rattle.word.proofs.Empty.{empty-answer-iff}
 use Rattle.word.proofs.Sheets.{no-zero-member, result-in-answer}
-use Rattle.sheet.specs.declared.counted.Counted.{Counted}
-use Rattle.sheet.specs.Refusal.{wordTests, holdsZero}
+use Rattle.call.specs.declared.counted.Counted.{Counted}
+use Rattle.word.specs.Refusal.{wordTests}
+use Rattle.sheet.specs.Refusal.{holdsZero}
 use Rattle.sheet.specs.Accepted.{SheetAccepted, rowsBefore}
 use Rattle.sheet.specs.Sheet.{Step, noStep, stepsOf, rowsOf, verdictOfSheet}
 use Rattle.sheet.specs.Depends.{DependsOn, itself, by-left, by-right}
 use Rattle.sheet.specs.Exact.{nought, exactRows, DivisorNotZero, NoZeroDivisor, Members, MembersFor, RowTrue}
 use Rattle.sheet.specs.Working.{Reals}
-use Rattle.sheet.specs.Written.{Writes}
-use Rattle.sheet.proofs.Tests.{passing-done}
-use Rattle.sheet.proofs.Verdicts.{real-passing}
+use Rattle.call.specs.Written.{Writes}
+use Rattle.call.proofs.Tests.{passing-done}
+use Rattle.word.proofs.WordTests.{real-passing}
 use Rattle.sheet.proofs.Rows.{length-rows, length-steps, rows-real, rows-kept, row-kept, row-is}
 use Rattle.sheet.proofs.ExactRows.{length-exact, exact-kept, exact-is}
 use Rattle.sheet.proofs.Depends.{depends-further}
-use Rattle.sheet.proofs.WrittenAt.{written-at}
+use Rattle.call.proofs.WrittenAt.{written-at}
 use Rattle.sheet.proofs.SheetVerdict.{steps-pass, sheet-done-exactly}
 
 -- a divisor that passed has no member that is 0
@@ -78,7 +79,7 @@ module _ {n es : ℕ} (inputs bytes : List ℕ) (lent : ℕ) (a : SheetAccepted 
       ∙ ap (λ (w : ℕ). answerOf n es (s .operation) (getD rows (s .left) 0) w) (getD-take (length inputs + k) rows (s .right) 0 (right-row-earlier k h))
 
   -- ---- demand 3, one row: pick any fraction from each input range that the row depends on
-  divisor-clear : (k : ℕ) → k < length steps → getD steps k noStep .operation ≡ divide → holdsZero n es (getD rows (getD steps k noStep .right) 0) ≡ false
+  divisor-clear : (k : ℕ) → k < length steps → getD steps k noStep .operation ≡ over → holdsZero n es (getD rows (getD steps k noStep .right) 0) ≡ false
   divisor-clear k h d =
       let right = getD steps k noStep .right in
       subst (λ (w : ℕ). holdsZero n es w ≡ false) (getD-take (length inputs + k) rows right 0 (right-row-earlier k h)) (a .step-fits k h .divisor d)

@@ -7,14 +7,14 @@ use native.Mathlib.Nat.{zero-add}
 use native.Mathlib.Omega.{arith}
 use lib.ListN.{length, getD}
 use lib.Seq.{length-take-le}
-use Rattle.posit.specs.Refusal.{Verdict, Test, firstHit}
-use Rattle.sheet.specs.Refusal.{wordTests}
+use Rattle.call.specs.Verdict.{Verdict, Test, firstHit}
+use Rattle.word.specs.Refusal.{wordTests}
 use Rattle.sheet.specs.Accepted.{SheetFits, StepFits, SheetAccepted, rowsBefore}
 use Rattle.sheet.specs.Sheet.{Step, noStep, stepsOf, rowsOf, sheetLimits, inputsTests, stepTests, stepsTests, verdictOfSheet}
 use Rattle.sheet.specs.Working.{Reals}
-use Rattle.sheet.proofs.Tests.{Passing, Refusal, Giving, gives-none, gives-one, gives-both, refusal-given, done-exactly, passing-parts, passing-both, refused-by-parts}
-use Rattle.sheet.proofs.Blocks.{joined, joined-same, each-passes, all-passing, RefusedAt, refused-exactly-at}
-use Rattle.sheet.proofs.Verdicts.{word-place, word-refusing, real-passing}
+use Rattle.call.proofs.Tests.{Passing, Refusal, Giving, gives-none, gives-one, gives-both, refusal-given, done-exactly, passing-parts, passing-both, refused-by-parts}
+use Rattle.call.proofs.Blocks.{joined, joined-same, each-passes, all-passing, RefusedAt, refused-exactly-at}
+use Rattle.word.proofs.WordTests.{word-place, word-refusing, real-passing}
 use Rattle.sheet.proofs.Limits.{sheet-refusing, sheet-fits, sheet-passing}
 use Rattle.sheet.proofs.Steps.{inputs-refusing, inputs-joined, inputs-real, step-refusing, steps-refusing, step-fits, fits-step}
 use Rattle.sheet.proofs.Rows.{length-rows, steps-joined}

@@ -12,22 +12,23 @@ use lib.ListN.{length, getD, take, drop, set, drop-of-length-le, length-append}
 use lib.Seq.{drop-cons, take-suc-set, getD-take}
 use borrow.Author.Tests.{leb-false, ltb-false, le-ltb, le-leb, lt-leb}
 use Rattle.posit.specs.Format.{Format}
-use Rattle.posit.specs.Refusal.{Test, firstHit, done}
-use Rattle.posit.proofs.Verdicts.{none-hits}
-use Rattle.word.specs.declared.inner.judge.Judged.{Judged}
-use Rattle.word.specs.Calls.{SaysVerdict}
+use Rattle.call.specs.Verdict.{Test, firstHit, done, Says}
+use Rattle.call.proofs.FirstHit.{none-hits}
+use Rattle.call.specs.declared.judged.Judged.{Judged}
 use Rattle.word.specs.Member.{Real}
 use Rattle.word.specs.Computed.{answerOf}
 use Rattle.word.proofs.Computed.{answer-real}
-use Rattle.sheet.specs.Refusal.{wordTests, earlierTest}
+use Rattle.word.specs.Refusal.{wordTests}
+use Rattle.sheet.specs.Refusal.{earlierTest}
 use Rattle.sheet.specs.Accepted.{StepFits}
 use Rattle.sheet.specs.Sheet.{Step, stepsOf, answerOfStep, withRow, rowsOf, inputsTests, stepTests, stepsTests}
 use Rattle.sheet.specs.Working.{Reals}
-use Rattle.sheet.proofs.Tests.{Passing, all-pass, one-passes, Refusing, gives-none, one-refuses, gives-both, passing-parts, passing-skips, head-passes, tail-passes}
-use Rattle.sheet.proofs.Blocks.{joined, joined-same}
+use Rattle.call.proofs.Tests.{Passing, all-pass, one-passes, Refusing, gives-none, one-refuses, gives-both, passing-parts, passing-skips, head-passes, tail-passes}
+use Rattle.call.proofs.Blocks.{joined, joined-same}
 use Rattle.sheet.proofs.Pairs.{divisor-clear, divisor-clears}
-use Rattle.word.proofs.Verdicts.{says-by}
-use Rattle.sheet.proofs.Verdicts.{says-first, word-refusing, passing-real, either-true, either-false}
+use Rattle.call.proofs.Said.{says-by, says-first}
+use Rattle.word.proofs.WordTests.{word-refusing, passing-real}
+use Rattle.call.proofs.Facts.{either-true, either-false}
 
 -- ---- inputs
 module _ (n : ℕ) where
@@ -151,7 +152,7 @@ module _ {n es : ℕ} {start : List ℕ} {all : List Step} where
       }
 
   pub working-refused : {rows : List ℕ} {s : Step} {left : List Step} {j : Judged} → Working n es start all rows (s ∷ left)
-      → SaysVerdict (firstHit (stepTests n es rows s)) j → j .number ≢ 0 → SaysVerdict (firstHit (stepsTests n es start all)) j
+      → Says (firstHit (stepTests n es rows s)) j → j .number ≢ 0 → Says (firstHit (stepsTests n es start all)) j
   unfolding stepsTests
   working-refused {rows} {s} {left} w v d = says-by (w .verdict) (says-first (stepTests n es rows s) (stepsTests n es (withRow n es rows s) left) v d)
 

@@ -4,7 +4,7 @@ use mathlib.Core.Bool.{false}
 use mathlib.Core.List.{List}
 use Prim.Native.Nat.{ℕ, _+_, _/_, _%_, _≤_, _<_}
 use lib.ListN.{length, getD, take}
-use Rattle.posit.specs.Arithmetic.{divide}
+use Rattle.call.specs.Operation.{over}
 use Rattle.posit.specs.Format.{Format}
 use Rattle.word.specs.Member.{Real}
 use Rattle.sheet.specs.Refusal.{longestColumn, mostInputs, mostSteps, stepBytes, holdsZero}
@@ -23,7 +23,7 @@ pub record ColumnFits (n es op left right row lent : ℕ) : Type 0 where
 pub record PairFits (n es op a b : ℕ) : Type 0 where
   pub left-real : Real n a
   pub right-real : Real n b
-  pub divisor : op ≡ divide → holdsZero n es b ≡ false
+  pub divisor : op ≡ over → holdsZero n es b ≡ false
 
 -- the last argument is the length of the lent column
 pub record ColumnsAccepted (n es op : ℕ) (left right : List ℕ) (row lent : ℕ) : Type 0 where
@@ -42,7 +42,7 @@ pub record StepFits (n es : ℕ) (rows : List ℕ) (s : Step) : Type 0 where
   pub operation : s .operation ≤ 3
   pub left-earlier : s .left < length rows
   pub right-earlier : s .right < length rows
-  pub divisor : s .operation ≡ divide → holdsZero n es (getD rows (s .right) 0) ≡ false
+  pub divisor : s .operation ≡ over → holdsZero n es (getD rows (s .right) 0) ≡ false
 
 -- the rows before step k are the first inputs + k of all rows
 abbrev pub rowsBefore : ℕ → ℕ → List ℕ → List Step → ℕ → List ℕ

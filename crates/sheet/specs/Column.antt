@@ -2,9 +2,12 @@
 use mathlib.Core.List.{List, [], _∷_, _++_}
 use Prim.Native.Nat.{ℕ, suc}
 use lib.ListN.{length}
-use Rattle.posit.specs.Refusal.{Verdict, Test, firstHit, formatTest, operationTest}
+use Rattle.call.specs.Verdict.{Verdict, Test, firstHit}
+use Rattle.posit.specs.Refusal.{formatTest}
+use Rattle.call.specs.Operation.{operationTest}
 use Rattle.word.specs.Computed.{answerOf}
-use Rattle.sheet.specs.Refusal.{wordTests, divisorTestAt, lengthTest, roomTest}
+use Rattle.word.specs.Refusal.{wordTests}
+use Rattle.sheet.specs.Refusal.{divisorTestAt, lengthTest, roomTest}
 
 -- 1, 2, 7 and 9, of the columns' lengths
 abbrev pub columnLimits : ℕ → ℕ → ℕ → ℕ → ℕ → ℕ → ℕ → List Test

@@ -5,7 +5,8 @@ use Prim.Native.Nat.{ℕ, _+_, _<_}
 use lib.IntN.{pos}
 use lib.ListN.{length, getD}
 use Rattle.exact.specs.Fraction.{Fraction, _≈_, whole}
-use Rattle.posit.specs.Arithmetic.{divide, exactResult}
+use Rattle.call.specs.Operation.{over}
+use Rattle.posit.specs.Arithmetic.{exactResult}
 use Rattle.word.specs.Member.{Member}
 use Rattle.sheet.specs.Sheet.{Step, noStep, rowsOf}
 use Rattle.sheet.specs.Depends.{DependsOn}
@@ -27,7 +28,7 @@ exactRows xs (s ∷ steps) = exactRows (withExact xs s) steps
 
 -- step k, where it divides, divides by no zero; and the same of every step
 abbrev pub DivisorNotZero : List Fraction → List Step → ℕ → Type 0
-DivisorNotZero xs steps k = getD steps k noStep .operation ≡ divide → ¬ (getD (exactRows xs steps) (getD steps k noStep .right) nought ≈ nought)
+DivisorNotZero xs steps k = getD steps k noStep .operation ≡ over → ¬ (getD (exactRows xs steps) (getD steps k noStep .right) nought ≈ nought)
 
 abbrev pub NoZeroDivisor : List Fraction → List Step → Type 0
 NoZeroDivisor xs steps = (k : ℕ) → k < length steps → DivisorNotZero xs steps k

@@ -5,7 +5,9 @@ use Prim.Native.Nat.{ℕ, zero, suc, _+_, _*_, _/_, _%_, _^_, _≤_, _<_}
 use lib.Dec.{eqb, ltb}
 use lib.ListN.{length, getD, take, drop}
 use Rattle.posit.specs.Format.{Format}
-use Rattle.posit.specs.Refusal.{Verdict, Test, firstHit, formatTest}
+use Rattle.call.specs.Number.{badFile, wrongLength}
+use Rattle.call.specs.Verdict.{Verdict, Test, firstHit}
+use Rattle.posit.specs.Refusal.{formatTest}
 use Rattle.sheet.specs.Refusal.{mostInputs, mostSteps, stepBytes}
 use Rattle.sheet.specs.Sheet.{Step, stepsOf, rowsOf, sheetTests}
 
@@ -91,11 +93,11 @@ hasMark file = eqb (getD file 0 0) 0x52 && (eqb (getD file 1 0) 0x53 && eqb (get
 
 -- 10: file shorter than 9 bytes, mark or version wrong, or wrong length
 abbrev pub fileTest : Bool → Test
-fileTest wrong = record { hit = wrong; gives = record { number = 10; place = 0 } }
+fileTest wrong = record { hit = wrong; gives = record { number = badFile; place = 0 } }
 
 -- 7: over 32 inputs or 64 steps
 abbrev pub countTest : ℕ → ℕ → Test
-countTest inputs steps = record { hit = ltb mostInputs inputs || ltb mostSteps steps; gives = record { number = 7; place = 0 } }
+countTest inputs steps = record { hit = ltb mostInputs inputs || ltb mostSteps steps; gives = record { number = wrongLength; place = 0 } }
 
 abbrev pub lengthOf : ℕ → ℕ → ℕ
 lengthOf inputs steps = headBytes + wordBytes * inputs + stepBytes * steps

@@ -1,5 +1,5 @@
+
 pub mod Refusal
-pub mod Written
 pub mod Column
 pub mod Sheet
 pub mod File

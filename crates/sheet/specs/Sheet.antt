@@ -2,9 +2,12 @@
 use mathlib.Core.List.{List, [], _∷_, _++_}
 use Prim.Native.Nat.{ℕ, suc, _+_, _/_}
 use lib.ListN.{length, getD}
-use Rattle.posit.specs.Refusal.{Verdict, Test, firstHit, formatTest}
+use Rattle.call.specs.Verdict.{Verdict, Test, firstHit}
+use Rattle.posit.specs.Refusal.{formatTest}
 use Rattle.word.specs.Computed.{answerOf}
-use Rattle.sheet.specs.Refusal.{stepBytes, wordTests, operationTestAt, divisorTestAt, sizeTest, earlierTest, roomTest}
+use Rattle.sheet.specs.Refusal.{stepBytes, divisorTestAt, sizeTest, earlierTest, roomTest}
+use Rattle.word.specs.Refusal.{wordTests}
+use Rattle.call.specs.Operation.{operationTestAt}
 
 -- a step is an operation number and two earlier rows
 pub record Step : Type 0 where

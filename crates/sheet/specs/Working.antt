@@ -3,7 +3,7 @@ use mathlib.Core.Path.{_≡_}
 use mathlib.Core.List.{List}
 use Prim.Native.Nat.{ℕ, _+_, _/_, _<_}
 use lib.ListN.{length, take, getD}
-use Rattle.posit.specs.Refusal.{firstHit}
+use Rattle.call.specs.Verdict.{firstHit}
 use Rattle.word.specs.Member.{Real}
 use Rattle.sheet.specs.declared.inner.steps.Worked.{Worked}
 use Rattle.sheet.specs.Refusal.{stepBytes}

@@ -1,14 +1,14 @@
 // Two columns of ranges combined pair by pair into a lent column.
 ghost use lib.ListN.{length};
 ghost use Rattle.sheet.specs.Column.{verdictOfColumns, answersOf};
-ghost use Rattle.sheet.specs.Written.{Writes};
-use super::counted::Counted;
+ghost use Rattle.call.specs.Written.{Writes};
 use super::inner::limits::judge_columns;
 use super::inner::pairs::judge_pairs;
 use super::inner::pairs::write_answers;
 use super::inner::plains::takes_plain_way;
 use super::inner::plains::write_plain;
-use posit::answer::DONE;
+use call::counted::Counted;
+use call::number::DONE;
 
 // One operation on two columns; the answers are written into the lent column from a row on, once every pair has been judged, or all words are seen to be plain.
 pub fn combine(

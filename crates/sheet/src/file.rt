@@ -1,8 +1,7 @@
 // A sheet file worked into a lent column.
 ghost use lib.ListN.{length};
 ghost use Rattle.sheet.specs.File.{verdictOfFile, rowsOfFile};
-ghost use Rattle.sheet.specs.Written.{Writes};
-use super::counted::Counted;
+ghost use Rattle.call.specs.Written.{Writes};
 use super::inner::layout::ES_AT;
 use super::inner::layout::HEAD_BYTES;
 use super::inner::layout::INPUTS_AT;
@@ -11,7 +10,8 @@ use super::inner::layout::WORD_BYTES;
 use super::inner::layout::judge_file;
 use super::inner::layout::read_words;
 use super::sheets::work;
-use posit::answer::DONE;
+use call::counted::Counted;
+use call::number::DONE;
 
 // The file's own tests, and then its sheet: the steps are all that stands behind the inputs.
 pub fn work_file(file: &[u8], lent: &mut [u64]) -> Counted

@@ -1,14 +1,14 @@
 // A sheet of ranges worked into a lent column.
 ghost use lib.ListN.{length};
 ghost use Rattle.sheet.specs.Sheet.{verdictOfSheet, rowsOf, stepsOf};
-ghost use Rattle.sheet.specs.Written.{Writes};
-use super::counted::Counted;
+ghost use Rattle.call.specs.Written.{Writes};
 use super::inner::limits::STEP_BYTES;
 use super::inner::limits::judge_sheet;
 use super::inner::steps::judge_inputs;
 use super::inner::steps::work_steps;
 use super::inner::steps::write_rows;
-use posit::answer::DONE;
+use call::counted::Counted;
+use call::number::DONE;
 
 // The inputs and then the steps, three bytes each: operation, left row, right row. The rows are written once all are worked.
 pub fn work(n: u32, es: u32, inputs: &[u64], steps: &[u8], lent: &mut [u64]) -> Counted

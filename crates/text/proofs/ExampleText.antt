@@ -1,13 +1,14 @@
 -- Document 01's example file has document 01's text, because the definitions compute to it.
 use mathlib.Core.Path.{_≡_, refl}
-use Rattle.posit.specs.Refusal.{firstHit}
+use Rattle.call.specs.Verdict.{firstHit}
 use Rattle.posit.specs.Reading.{run}
 use Rattle.posit.specs.Value.{multiple, units}
 use Rattle.posit.specs.Nearest.{floorUpTo, chosen, nearestAbove, nearest}
 use Rattle.word.specs.Computed.{answerOf}
 use Rattle.word.specs.Word.{kindOfTiles}
 use Rattle.sheet.specs.File.{numberOf, wordsOf, fileOf, hasMark, verdictOfFile, rowsOfFile}
-use Rattle.sheet.specs.Refusal.{wordTests, holdsZero}
+use Rattle.word.specs.Refusal.{wordTests}
+use Rattle.sheet.specs.Refusal.{holdsZero}
 use Rattle.sheet.specs.Sheet.{stepsOf, rowsOf, inputsTests, stepsTests}
 use Rattle.text.specs.Example.{exampleFile, exampleText}
 use Rattle.text.specs.FileText.{textOfFile}

@@ -10,8 +10,8 @@ use lib.Seq.{take-at}
 use Rattle.sheet.specs.File.{widthOf, exponentSizeOf, inputsPart, stepsPart, fileOf, verdictOfFile, rowsOfFile}
 use Rattle.sheet.specs.Sheet.{stepsOf}
 use Rattle.sheet.specs.Accepted.{FileAccepted}
-use Rattle.sheet.specs.Written.{Writes, countOf, laterOf}
-use Rattle.sheet.specs.declared.counted.Counted.{Counted}
+use Rattle.call.specs.Written.{Writes, countOf, laterOf}
+use Rattle.call.specs.declared.counted.Counted.{Counted}
 use Rattle.sheet.proofs.FileVerdict.{file-done-exactly}
 use Rattle.sheet.proofs.Rows.{length-rows, length-steps}
 use Rattle.text.specs.FileText.{mostRows, textOfFile, Leaves}

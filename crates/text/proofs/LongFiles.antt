@@ -10,13 +10,14 @@ use lib.Dec.{eqb, ltb}
 use lib.ListN.{length, getD, take}
 use lib.Seq.{take-all, getD-take, length-take-le}
 use borrow.Author.Tests.{le-ltb, ltb-false, ne-eqb}
-use Rattle.posit.specs.Refusal.{Verdict, Test, firstHit, formatTest}
-use Rattle.posit.proofs.Verdicts.{hits}
+use Rattle.call.specs.Verdict.{Verdict, Test, firstHit}
+use Rattle.posit.specs.Refusal.{formatTest}
+use Rattle.call.proofs.FirstHit.{hits}
 use Rattle.sheet.specs.File.{headBytes, hasMark, version, versionOf, widthOf, exponentSizeOf, inputCount, stepCount, lengthOf, fileTest, countTest, fileTests, verdictOfFile}
 use Rattle.sheet.specs.Refusal.{mostInputs, mostSteps}
-use Rattle.sheet.proofs.Tests.{Passing, passing-of, passing-skips, refusal-stays, Refusing, gives-none, one-refuses, head-passes, tail-passes}
+use Rattle.call.proofs.Tests.{Passing, passing-of, passing-skips, refusal-stays, Refusing, gives-none, one-refuses, head-passes, tail-passes}
 use Rattle.sheet.proofs.FileVerdict.{file-refused}
-use Rattle.sheet.proofs.Verdicts.{either-false}
+use Rattle.call.proofs.Facts.{either-false}
 use Rattle.text.specs.FileText.{mostRows, textOfFile}
 use Rattle.text.specs.Text.{refusalLine}
 use Rattle.text.proofs.FileTexts.{refused-text}

@@ -6,7 +6,7 @@ use native.Mathlib.Numerals.{add-one}
 use native.Mathlib.Omega.{arith}
 use lib.ListN.{length, getD, take, drop, set, length-append, length-drop}
 use lib.Seq.{length-take-le, take-all, take-at, drop-append-add, drop-drop, paste, paste-zero, paste-suc, length-paste}
-use Rattle.sheet.specs.Written.{overwritten}
+use Rattle.call.specs.Written.{overwritten}
 use Rattle.text.specs.Put.{Put}
 
 -- ---- one byte a turn

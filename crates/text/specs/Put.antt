@@ -3,7 +3,7 @@ use mathlib.Core.Path.{_≡_}
 use mathlib.Core.List.{List}
 use Prim.Native.Nat.{ℕ, _+_}
 use lib.ListN.{length}
-use Rattle.sheet.specs.Written.{overwritten}
+use Rattle.call.specs.Written.{overwritten}
 
 pub record Put (at : ℕ) (bytes before after : List ℕ) (behind : ℕ) : Type 0 where
   pub next : behind ≡ at + length bytes

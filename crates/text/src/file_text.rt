@@ -2,7 +2,7 @@
 ghost use Rattle.text.specs.FileText.{textOfFile, Leaves};
 use super::inner::lines::put_refusal;
 use super::inner::lines::put_rows;
-use posit::answer::DONE;
+use call::number::DONE;
 use sheet::file::work_file;
 use sheet::inner::layout::N_AT;
 

@@ -22,7 +22,7 @@ use Rattle.bound.specs.Fractions.{same-of-≈}
 use Rattle.bound.specs.Cell.{cell}
 use Rattle.bound.proofs.CellEnd.{cell-has-number}
 use Rattle.bound.proofs.Extent.{NoMember}
-use Rattle.posit.specs.Arithmetic.{divide}
+use Rattle.call.specs.Operation.{over}
 use Rattle.posit.specs.Format.{Format, nar}
 use Rattle.posit.specs.Parts.{chosenBy}
 use Rattle.posit.specs.Value.{value}
@@ -35,9 +35,8 @@ use Rattle.word.specs.Member.{Member}
 use Rattle.word.specs.Smallest.{Result}
 use Rattle.word.specs.Spans.{topCell, startCell, endCell, startTileAt, endTileAt, cellsOf, wordAt}
 use Rattle.word.specs.Computed.{cellOf, answerOf}
-use Rattle.cell.specs.Cells.{sumStart, sumEnd, sumCells}
+use Rattle.cell.specs.Cells.{sumStart, sumEnd, sumCells, resultOf, resultCell}
 use Rattle.signs.specs.Signs.{Edge, startEdge, endEdge, firstCell, lastCell, turnedCells, pickSpan, positiveSome}
-use Rattle.cell.specs.Cells.{resultOf, resultCell}
 use Rattle.signs.specs.OneSign.{magnitudes, withSigns}
 use Rattle.tiles.specs.Plain.{isPlain, openZero, PlainStart, PlainEnd}
 use Rattle.word.proofs.Grid.{posits, once-over, half}
@@ -189,7 +188,7 @@ module _ (n es : ℕ) (wide : 3 ≤ n) where
       let (x, i) = cell-has-number (posits n es wide) (firstOf n (startTile n w)) (omega (arith, cells-ordered p, last-there n wide (plain-end p), top-cell n wide)) in
       (x, omega (arith, i, p), member-cells n es wide r x .1 (rw e (omega (arith, i, cells-ordered p))))
 
-  module _ (op a b : ℕ) (known : op ≤ divide) (h : isPlain n a ≡ true) (k : isPlain n b ≡ true) where
+  module _ (op a b : ℕ) (known : op ≤ over) (h : isPlain n a ≡ true) (k : isPlain n b ≡ true) where
     usable : (y : Fraction) → 2 ^ n ≤ cell (posits n es wide) y → Member n es b y → Usable n es op b y
     usable y l m = record { member = m; divisor = λ e z. zero-below n es wide l (same-of-≈ z .0) }
 
@@ -201,7 +200,7 @@ module _ (n es : ℕ) (wide : 3 ≤ n) where
         by (inr f) = let (y, l, m) = some-member b k in f y (usable y l m)
 
   -- ---- two tiles make an answer that is not empty
-  pub tiles-answer : (op a b : ℕ) → op ≤ divide → ¬ NoMember (Result n es op a b) → (lo hi : ℕ) → answerOf n es op a b ≡ wordAt n (record { lo = lo; hi = hi })
+  pub tiles-answer : (op a b : ℕ) → op ≤ over → ¬ NoMember (Result n es op a b) → (lo hi : ℕ) → answerOf n es op a b ≡ wordAt n (record { lo = lo; hi = hi })
       → {x y w : ℕ} → x ≡ startTileAt n lo → y ≡ endTileAt n hi → w ≡ wordOf n x y → w ≡ answerOf n es op a b
   tiles-answer op a b known some lo hi e i j g = g ∙ ap₂ (wordOf n) i j ∙ by (decLt hi lo)
     where

@@ -17,7 +17,8 @@ use Rattle.bound.proofs.Cell.{cell-is-cell, cell-is}
 use Rattle.bound.proofs.Extent.{spans-of-same-set}
 use Rattle.bound.proofs.Arithmetic.{InNonZero, sum-spans, difference-spans, product-spans, quotient-spans}
 use Rattle.posit.specs.Value.{value}
-use Rattle.posit.specs.Arithmetic.{divide, exactResult}
+use Rattle.call.specs.Operation.{over}
+use Rattle.posit.specs.Arithmetic.{exactResult}
 use Rattle.posit.proofs.Patterns.{some-bit}
 use Rattle.word.specs.Word.{startOf, endOf}
 use Rattle.word.specs.Member.{Real, Member, AfterStart, BeforeEnd}
@@ -55,7 +56,7 @@ module _ (n es a b : ℕ) where
   Right = Within fractions (extentOf n es b)
 
   -- an operation other than division
-  plain : (op : ℕ) → op < divide → (z : Fraction) → Results fractions (exactResult op) Left Right z ↔ Result n es op a b z
+  plain : (op : ℕ) → op < over → (z : Fraction) → Results fractions (exactResult op) Left Right z ↔ Result n es op a b z
   plain op small z = (
     λ r.
         record {
@@ -76,7 +77,7 @@ module _ (n es a b : ℕ) where
         },
   )
 
-  divided : (z : Fraction) → Results fractions (exactResult divide) Left (InNonZero fraction-arithmetic (extentOf n es b)) z ↔ Result n es divide a b z
+  divided : (z : Fraction) → Results fractions (exactResult over) Left (InNonZero fraction-arithmetic (extentOf n es b)) z ↔ Result n es over a b z
   divided z = (
     λ r.
         record {
@@ -97,7 +98,7 @@ module _ (n es a b : ℕ) where
         },
   )
 
-  pub results-span : (op : ℕ) → op ≤ divide → Spans fractions (Result n es op a b) (exactExtent op (extentOf n es a) (extentOf n es b))
+  pub results-span : (op : ℕ) → op ≤ over → Spans fractions (Result n es op a b) (exactExtent op (extentOf n es a) (extentOf n es b))
   unfolding exactExtent
   results-span zero h = spans-of-same-set fractions (plain 0 (omega arith)) (sum-spans fraction-arithmetic (extentOf n es a) (extentOf n es b))
   results-span (suc zero) h =
@@ -133,7 +134,7 @@ module _ (n es : ℕ) (wide : 3 ≤ n) where
   extent-answer {S} {u} s = rw (low-same u, high-same u) (answer-of-extent n es wide s)
 
 -- ---- the answer of an operation
-module _ (n es op a b : ℕ) (wide : 3 ≤ n) (known : op ≤ divide) where
+module _ (n es op a b : ℕ) (wide : 3 ≤ n) (known : op ≤ over) where
   pub answer-computed : IsAnswer n es (Result n es op a b) (answerOf n es op a b)
   unfolding answerOf
   answer-computed = extent-answer n es wide (results-span n es a b op known)

@@ -14,7 +14,7 @@ use Rattle.bound.proofs.CellEnd.{cell-has-number}
 use Rattle.bound.proofs.Extent.{NoMember, empty-iff-no-member}
 use Rattle.bound.proofs.Arithmetic.{InNonZero}
 use Rattle.bound.proofs.Empty.{sum-empty-iff, difference-empty-iff, product-empty-iff, quotient-empty-iff}
-use Rattle.posit.specs.Arithmetic.{divide}
+use Rattle.call.specs.Operation.{over}
 use Rattle.posit.proofs.Patterns.{some-bit}
 use Rattle.word.specs.Word.{empty as nothing, kind, emptyWord}
 use Rattle.word.specs.Member.{Real, Member}
@@ -55,7 +55,7 @@ module _ {n es w : ℕ} {S : Fraction → Type 0} (wide : 3 ≤ n) (h : IsAnswer
 -- a right operand that operation op may use: a member of b, and no 0 where it divides
 pub record Usable (n es op b : ℕ) (y : Fraction) : Type 0 where
   pub member : Member n es b y
-  pub divisor : op ≡ divide → ¬ (y ≈ whole (pos 0))
+  pub divisor : op ≡ over → ¬ (y ≈ whole (pos 0))
 
 -- sets with the same members are empty together
 same-none : {S T : Fraction → Type 0} → ((x : Fraction) → S x ↔ T x) → NoMember S ↔ NoMember T
@@ -69,16 +69,16 @@ module _ (n es a b : ℕ) where
   within-member : (x : Fraction) → Within fractions (extentOf n es a) x ↔ Member n es a x
   within-member x = (member-within n es a x .1, member-within n es a x .0)
 
-  within-usable : (op : ℕ) → op < divide → (y : Fraction) → Within fractions (extentOf n es b) y ↔ Usable n es op b y
+  within-usable : (op : ℕ) → op < over → (y : Fraction) → Within fractions (extentOf n es b) y ↔ Usable n es op b y
   within-usable op small y = (λ i. record { member = member-within n es b y .1 i; divisor = λ e. absurd (omega arith) }, λ u. member-within n es b y .0 (u .member))
 
-  nonzero-usable : (y : Fraction) → InNonZero fraction-arithmetic (extentOf n es b) y ↔ Usable n es divide b y
+  nonzero-usable : (y : Fraction) → InNonZero fraction-arithmetic (extentOf n es b) y ↔ Usable n es over b y
   nonzero-usable y = (
     λ i. record { member = member-within n es b y .1 (i .0); divisor = λ e z. i .1 (same-of-≈ z) },
     λ u. (member-within n es b y .0 (u .member), λ z. u .divisor refl (≈-of-same z)),
   )
 
-  no-extent-iff : (op : ℕ) → op ≤ divide
+  no-extent-iff : (op : ℕ) → op ≤ over
       → (exactExtent op (extentOf n es a) (extentOf n es b) ≡ empty) ↔ (NoMember (Member n es a) ⊎ NoMember (Usable n es op b))
   unfolding exactExtent
   no-extent-iff zero h =
@@ -91,14 +91,14 @@ module _ (n es a b : ℕ) where
       Iff·trans (quotient-empty-iff fraction-arithmetic (extentOf n es a) (extentOf n es b)) (either-none within-member nonzero-usable)
   no-extent-iff (suc (suc (suc (suc op)))) h = absurd (omega arith)
 
-  pub no-result-iff : (op : ℕ) → op ≤ divide → NoMember (Result n es op a b) ↔ (NoMember (Member n es a) ⊎ NoMember (Usable n es op b))
+  pub no-result-iff : (op : ℕ) → op ≤ over → NoMember (Result n es op a b) ↔ (NoMember (Member n es a) ⊎ NoMember (Usable n es op b))
   no-result-iff op h =
       let (f, g) = empty-iff-no-member fractions (results-span n es a b op h) in
       let (i, j) = no-extent-iff op h in
       (λ k. i (g k), λ k. f (j k))
 
 -- ---- the computed answer
-module _ (n es op a b : ℕ) (wide : 3 ≤ n) (known : op ≤ divide) where
+module _ (n es op a b : ℕ) (wide : 3 ≤ n) (known : op ≤ over) where
   -- it is the canonical empty word exactly where there is no result
   pub computed-empty-word-iff : (answerOf n es op a b ≡ emptyWord n) ↔ NoMember (Result n es op a b)
   computed-empty-word-iff = empty-word-iff wide (answer-computed n es op a b wide known)
@@ -108,7 +108,7 @@ module _ (n es op a b : ℕ) (wide : 3 ≤ n) (known : op ≤ divide) where
   computed-empty-iff = Iff·trans (empty-answer-iff wide (answer-computed n es op a b wide known)) (no-result-iff n es a b op known)
 
   -- where it may use every member of b: exactly where an operand has none
-  pub computed-empty-iff-operand : ((y : Fraction) → Member n es b y → op ≡ divide → ¬ (y ≈ whole (pos 0)))
+  pub computed-empty-iff-operand : ((y : Fraction) → Member n es b y → op ≡ over → ¬ (y ≈ whole (pos 0)))
       → NoMember (Member n es (answerOf n es op a b)) ↔ (NoMember (Member n es a) ⊎ NoMember (Member n es b))
   computed-empty-iff-operand d =
       Iff·trans computed-empty-iff (either-none (λ x. Iff·rfl) (λ y. (λ u. u .member, λ m. record { member = m; divisor = d y m })))

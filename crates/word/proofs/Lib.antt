@@ -1,3 +1,5 @@
+
+pub mod WordTests
 pub mod Grid
 pub mod Places
 pub mod WordKinds

@@ -8,25 +8,25 @@ use lib.Dec.{leb, ltb, eqb}
 use borrow.Author.Tests.{le-leb, leb-true, lt-ltb, ltb-true, ne-eqb, eqb-false, not-true}
 use Rattle.word.specs.declared.inner.span.Span.{Span}
 use Rattle.word.specs.Member.{Real, Inside, Meets, Below}
-use Rattle.word.specs.Calls.{Says}
+use Rattle.word.specs.Calls.{Tells}
 use Rattle.word.specs.Spans.{cellsOf}
 use Rattle.word.proofs.Comparisons.{inside-by-cells, meets-by-cells, below-by-cells}
 
 -- ---- replies
 module _ {P Q : Type 0} (i : P ↔ Q) where
-  pub says-yes : Q → Says P true
+  pub says-yes : Q → Tells P true
   says-yes q = (λ e. i .1 q, λ p. refl)
 
-  pub says-no : ¬ Q → Says P false
+  pub says-no : ¬ Q → Tells P false
   says-no d = (λ e. absurd (true≢false (sym e)), λ p. absurd (d (i .0 p)))
 
-  pub says-le : (a b : ℕ) → (a ≤ b → Q) → (Q → a ≤ b) → Says P (leb a b)
+  pub says-le : (a b : ℕ) → (a ≤ b → Q) → (Q → a ≤ b) → Tells P (leb a b)
   says-le a b f g = (λ e. i .1 (f (leb-true a b e)), λ p. le-leb a b (g (i .0 p)))
 
-  pub says-lt : (a b : ℕ) → (a < b → Q) → (Q → a < b) → Says P (ltb a b)
+  pub says-lt : (a b : ℕ) → (a < b → Q) → (Q → a < b) → Tells P (ltb a b)
   says-lt a b f g = (λ e. i .1 (f (ltb-true a b e)), λ p. lt-ltb a b (g (i .0 p)))
 
-  pub says-ne : (a b : ℕ) → ((a ≡ b → ⊥) → Q) → (Q → a ≡ b → ⊥) → Says P (not (eqb a b))
+  pub says-ne : (a b : ℕ) → ((a ≡ b → ⊥) → Q) → (Q → a ≡ b → ⊥) → Tells P (not (eqb a b))
   says-ne a b f g = (λ e. i .1 (f (eqb-false a b (not-true (eqb a b) e))), λ p. ap not (ne-eqb a b (g (i .0 p))))
 
 pub itself : {P : Type 0} → P ↔ P

@@ -6,7 +6,7 @@ use Prim.Native.Nat.{ℕ, _≤_}
 use Rattle.exact.specs.Fraction.{Fraction}
 use Rattle.bound.specs.Fractions.{fractions}
 use Rattle.bound.proofs.Extent.{spans-of-same-set}
-use Rattle.posit.specs.Arithmetic.{divide}
+use Rattle.call.specs.Operation.{over}
 use Rattle.word.specs.Member.{Member, Inside}
 use Rattle.word.specs.Smallest.{Result}
 use Rattle.word.specs.Computed.{answerOf}
@@ -27,7 +27,7 @@ results-grow h k r =
 abbrev pub SameMembers : ℕ → ℕ → ℕ → ℕ → Type 0
 SameMembers n es a b = (x : Fraction) → Member n es a x ↔ Member n es b x
 
-module _ (n es op : ℕ) (wide : 3 ≤ n) (known : op ≤ divide) {a a′ b b′ : ℕ} (h : SameMembers n es a a′) (k : SameMembers n es b b′) where
+module _ (n es op : ℕ) (wide : 3 ≤ n) (known : op ≤ over) {a a′ b b′ : ℕ} (h : SameMembers n es a a′) (k : SameMembers n es b b′) where
   pub same-results : (z : Fraction) → Result n es op a b z ↔ Result n es op a′ b′ z
   same-results z = (results-grow (λ x. h x .0) (λ x. k x .0), results-grow (λ x. h x .1) (λ x. k x .1))
 

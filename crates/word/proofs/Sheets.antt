@@ -7,7 +7,8 @@ use lib.IntN.{pos}
 use Rattle.exact.specs.Fraction.{Fraction, _≈_, whole}
 use Rattle.exact.proofs.Order.{≈-refl}
 use Rattle.bound.proofs.Extent.{NoMember}
-use Rattle.posit.specs.Arithmetic.{divide, exactResult}
+use Rattle.call.specs.Operation.{over}
+use Rattle.posit.specs.Arithmetic.{exactResult}
 use Rattle.word.specs.Word.{empty, kind}
 use Rattle.word.specs.Member.{Real, Member, isMember}
 use Rattle.word.specs.Smallest.{Result}
@@ -21,22 +22,22 @@ pub no-zero-member : (n es b : ℕ) → isMember n es b (whole (pos 0)) ≡ fals
 no-zero-member n es b f y m e = true≢false (sym (is-member n es b (whole (pos 0)) .1 (member-same e m)) ∙ f)
 
 -- the same where the operation divides
-pub no-zero-divisor : (n es op b : ℕ) → (op ≡ divide → isMember n es b (whole (pos 0)) ≡ false)
-    → (y : Fraction) → Member n es b y → op ≡ divide → ¬ (y ≈ whole (pos 0))
+pub no-zero-divisor : (n es op b : ℕ) → (op ≡ over → isMember n es b (whole (pos 0)) ≡ false)
+    → (y : Fraction) → Member n es b y → op ≡ over → ¬ (y ≈ whole (pos 0))
 no-zero-divisor n es op b f y m e = no-zero-member n es b (f e) y m
 
-module _ (n es op a b : ℕ) (wide : 3 ≤ n) (known : op ≤ divide) where
+module _ (n es op a b : ℕ) (wide : 3 ≤ n) (known : op ≤ over) where
   pub answer-holds : (z : Fraction) → Result n es op a b z → Member n es (answerOf n es op a b) z
   answer-holds = answer-computed n es op a b wide known .smallest .holds
 
-  pub result-in-answer : {x y : Fraction} → Member n es a x → Member n es b y → (op ≡ divide → ¬ (y ≈ whole (pos 0)))
+  pub result-in-answer : {x y : Fraction} → Member n es a x → Member n es b y → (op ≡ over → ¬ (y ≈ whole (pos 0)))
       → Member n es (answerOf n es op a b) (exactResult op x y)
   result-in-answer {x} {y} h k d =
       answer-holds (exactResult op x y)
       record { left = x; right = y; left-member = h; right-member = k; divisor = d; is-result = ≈-refl (exactResult op x y) }
 
   -- with a divisor that is not refused: the result of any two members, and emptiness
-  module _ (allowed : op ≡ divide → isMember n es b (whole (pos 0)) ≡ false) where
+  module _ (allowed : op ≡ over → isMember n es b (whole (pos 0)) ≡ false) where
     pub members-in-answer : {x y : Fraction} → Member n es a x → Member n es b y → Member n es (answerOf n es op a b) (exactResult op x y)
     members-in-answer {x} {y} h k = result-in-answer h k (no-zero-divisor n es op b allowed y k)
 

@@ -10,7 +10,8 @@ use Rattle.bound.specs.Order.{Order, dual}
 use Rattle.bound.specs.Bound.{Bound, GreatestBelow}
 use Rattle.bound.specs.End.{Stands, closed-on-bound, open-on-bound, open-beyond-bound, unbounded-beyond, unbounded}
 use Rattle.bound.specs.Fractions.{fractions}
-use Rattle.posit.specs.Arithmetic.{divide, exactResult}
+use Rattle.call.specs.Operation.{over}
+use Rattle.posit.specs.Arithmetic.{exactResult}
 use Rattle.word.specs.Member.{Member, Inside}
 use Rattle.word.specs.Smallest.{IsAnswer, Result}
 use Rattle.word.specs.Calls.{Negative}
@@ -21,7 +22,7 @@ module _ (n es : ℕ) {a : ℕ} where
   negative-is-member h x m = h .smallest .holds (negᶠ x) (record { of = x; member = m; is-negative = ≈-refl (negᶠ x) })
 
 module _ (n es op : ℕ) {a b w : ℕ} (h : IsAnswer n es (Result n es op a b) w) where
-  pub result-is-member : (x y : Fraction) → Member n es a x → Member n es b y → (op ≡ divide → ¬ (y ≈ whole (pos 0))) → Member n es w (exactResult op x y)
+  pub result-is-member : (x y : Fraction) → Member n es a x → Member n es b y → (op ≡ over → ¬ (y ≈ whole (pos 0))) → Member n es w (exactResult op x y)
   result-is-member x y i j d =
       h .smallest .holds (exactResult op x y)
       (record { left = x; right = y; left-member = i; right-member = j; divisor = d; is-result = ≈-refl (exactResult op x y) })

@@ -7,7 +7,8 @@ use Prim.Native.Nat.{ℕ, _+_, _-_, _*_, _%_, _^_, _≤_, _<_}
 use native.Mathlib.Nat.{mod-lt}
 use native.Mathlib.Omega.{arith}
 use Rattle.posit.specs.Format.{isFormat}
-use Rattle.posit.specs.Refusal.{Verdict, left, right}
+use Rattle.call.specs.Verdict.{Verdict, Says}
+use Rattle.call.specs.Place.{left, right}
 use Rattle.posit.proofs.Mirror.{power-wider}
 use Rattle.word.specs.declared.inner.span.Span.{Span}
 use Rattle.word.specs.declared.inner.word.Taken.{Taken}
@@ -17,13 +18,14 @@ use Rattle.word.specs.Word.{words, kind, isInfinite, startTile, endTile,
 use Rattle.word.specs.Member.{Real}
 use Rattle.word.specs.Spans.{startCell, endCell, noCells, cellsOf}
 use Rattle.word.specs.Refusal.{verdictOfRange, verdictOfRanges}
-use Rattle.word.specs.Calls.{SaysVerdict, verdictOfWord}
+use Rattle.word.specs.Calls.{verdictOfWord}
 use Rattle.word.specs.Taking.{TakesWord, withoutCells, RefusesBoth, PassesBoth, TakesBoth}
 use Rattle.word.proofs.Places.{start-tile-of-word, end-tile-of-word}
 use Rattle.word.proofs.WordKinds.{closed-start-infinite, closed-end-infinite, infinite-by-cells}
 use Rattle.word.proofs.RealWords.{between-some, between-none, start-not-nar, end-not-nar}
 use Rattle.word.proofs.Tiles.{half-small, half-large, closed-half, nar-of-turn, turn-of-nar, one-turn, start-cell-is, end-cell-is}
-use Rattle.word.proofs.Verdicts.{says, word-too-large, word-infinite, word-done, word-real, word-placed, range-outside, range-inside, range-passes, ranges-left, ranges-right, ranges-done}
+use Rattle.call.proofs.Said.{says}
+use Rattle.word.proofs.Verdicts.{word-too-large, word-infinite, word-done, word-real, word-placed, range-outside, range-inside, range-passes, ranges-left, ranges-right, ranges-done}
 
 -- ---- by what the word is
 module _ {n w : ℕ} {r : Taken} where
@@ -141,10 +143,10 @@ module _ {n w : ℕ} {r : Taken} (t : TakesWord n w r) where
   refused-at : r .number ≢ 0 → (place : ℕ) → verdictOfWord n place w ≡ record { number = r .number; place = place }
   refused-at d place = rw (t .number) (word-placed n w (λ z. d (t .number ∙ z)) place)
 
-  pub says-refused : (place : ℕ) → r .number ≢ 0 → SaysVerdict (verdictOfWord n place w) (record { number = r .number; place = place })
+  pub says-refused : (place : ℕ) → r .number ≢ 0 → Says (verdictOfWord n place w) (record { number = r .number; place = place })
   says-refused place d = says (refused-at d place)
 
-  pub says-done : (place : ℕ) → r .number ≡ 0 → SaysVerdict (verdictOfWord n place w) (record { number = 0; place = 0 })
+  pub says-done : (place : ℕ) → r .number ≡ 0 → Says (verdictOfWord n place w) (record { number = 0; place = 0 })
   says-done place z = let q = word-real n left w (number-of z) in says (word-done n place w (q .fits) (q .no-infinity))
 
 -- ---- both operands
@@ -188,8 +190,8 @@ module _ (n es a b : ℕ) {r : Operands} (t : TakesBoth n es a b r) where
   pub passed-both : {x y : Span} → r ≡ Cells x y → PassesBoth n es a b x y
   passed-both e = subst (λ (o : Operands). TakesBoth n es a b o) e t
 
-  pub both-refused : {number place : ℕ} → r ≡ Refused number place → SaysVerdict (verdictOfRanges n es a b) (record { number = number; place = place })
+  pub both-refused : {number place : ℕ} → r ≡ Refused number place → Says (verdictOfRanges n es a b) (record { number = number; place = place })
   both-refused e = let f = refused-both e in record { number = f .number-is; place = f .place-is }
 
-  pub both-done : {x y : Span} → r ≡ Cells x y → SaysVerdict (verdictOfRanges n es a b) (record { number = 0; place = 0 })
+  pub both-done : {x y : Span} → r ≡ Cells x y → Says (verdictOfRanges n es a b) (record { number = 0; place = 0 })
   both-done e = says (ranges-done n es a b (passed-both e .passes))

@@ -2,46 +2,25 @@
 use mathlib.Core.Path.{_≡_, refl, sym, ap, _∙_}
 use mathlib.Core.Bool.{Bool, true, false, not}
 use mathlib.Core.Logic.{_≢_}
-use mathlib.Core.List.{List, [], _∷_}
-use Prim.Native.Nat.{ℕ, suc, _≤_, _<_}
-use native.Mathlib.Nat.{suc-ne-zero}
+use mathlib.Core.List.{[], _∷_}
+use Prim.Native.Nat.{ℕ, _≤_, _<_}
 use native.Mathlib.Decide.{ℕ-discrete}
 use lib.Dec.{leb}
 use borrow.Author.Tests.{le-leb, lt-leb, leb-true, leb-false, not-false}
 use Rattle.posit.specs.Format.{Format, isFormat}
-use Rattle.posit.specs.Refusal.{Verdict, Test, Answers, done, firstHit, left, right, formatTest}
-use Rattle.posit.proofs.Verdicts.{hits, passes, none-hits, answers-done, format-of}
+use Rattle.call.specs.Verdict.{Verdict, done, firstHit, Says}
+use Rattle.call.specs.Place.{left, right}
+use Rattle.posit.specs.Refusal.{formatTest}
+use Rattle.call.proofs.FirstHit.{hits, passes, none-hits}
+use Rattle.call.proofs.Answered.{answers-done, refused-as-said}
+use Rattle.posit.proofs.Verdicts.{format-of}
+use Rattle.call.proofs.Tests.{one-refuses, gives-none, head-passes, tail-passes, passing-of, passing-done, refusal-stays}
 use Rattle.word.specs.declared.answer.Reply.{Reply}
-use Rattle.word.specs.declared.inner.judge.Judged.{Judged}
+use Rattle.call.specs.declared.judged.Judged.{Judged}
 use Rattle.word.specs.Word.{words, kind, isInfinite}
 use Rattle.word.specs.Member.{Real}
 use Rattle.word.specs.Refusal.{verdictOfRange, verdictOfRanges, wordTest, infinityTest}
-use Rattle.word.specs.Calls.{SaysVerdict, verdictOfWord, Says, ComparisonOf, doneReply, refusedReply}
-
--- ---- lists of tests
--- a refusal is found again where more tests follow
-module _ (t : Test) (ts us : List Test) (rest : firstHit ts .number ≢ 0 → firstHit us ≡ firstHit ts) where
-  pub refusal-stays : firstHit (t ∷ ts) .number ≢ 0 → firstHit (t ∷ us) ≡ firstHit (t ∷ ts)
-  refusal-stays d = go (t .hit) refl
-    where
-      go : (b : Bool) → t .hit ≡ b → firstHit (t ∷ us) ≡ firstHit (t ∷ ts)
-      go true e = hits t us e ∙ sym (hits t ts e)
-      go false e = passes t us e ∙ rest (λ z. d (ap (λ (v : Verdict). v .number) (passes t ts e) ∙ z)) ∙ sym (passes t ts e)
-
--- where the call is done, a test that refuses has not hit
-pub passed : (t : Test) (ts : List Test) {k : ℕ} → t .gives .number ≡ suc k → firstHit (t ∷ ts) .number ≡ 0 → (t .hit ≡ false) × (firstHit ts .number ≡ 0)
-passed t ts {k} g z = go (t .hit) refl
-  where
-    go : (b : Bool) → t .hit ≡ b → (t .hit ≡ false) × (firstHit ts .number ≡ 0)
-    go true e = absurd (suc-ne-zero k (sym g ∙ ap (λ (v : Verdict). v .number) (sym (hits t ts e)) ∙ z))
-    go false e = (e, ap (λ (v : Verdict). v .number) (sym (passes t ts e)) ∙ z)
-
--- a verdict as the machine says it
-pub says : {v : Verdict} {number place : ℕ} → v ≡ record { number = number; place = place } → SaysVerdict v (record { number = number; place = place })
-says e = record { number = sym (ap (λ (v : Verdict). v .number) e); place = sym (ap (λ (v : Verdict). v .place) e) }
-
-pub says-by : {u v : Verdict} {r : Judged} → v ≡ u → SaysVerdict u r → SaysVerdict v r
-says-by e s = rw e s
+use Rattle.word.specs.Calls.{verdictOfWord, Tells, ComparisonOf, doneReply, refusedReply}
 
 -- ---- one word
 module _ (n place a : ℕ) where
@@ -59,9 +38,8 @@ module _ (n place a : ℕ) where
 
   pub word-real : verdictOfWord n place a .number ≡ 0 → Real n a
   word-real z =
-      let p = passed (wordTest n place a) (infinityTest n place a ∷ []) refl z in
-      let q = passed (infinityTest n place a) [] refl (p .1) in
-      record { fits = leb-false (words n) a (p .0); no-infinity = q .0 }
+      let p = passing-of {ts = wordTest n place a ∷ infinityTest n place a ∷ []} (one-refuses refl (one-refuses refl gives-none)) z in
+      record { fits = leb-false (words n) a (head-passes p); no-infinity = head-passes (tail-passes p) }
 
 -- a refused word is refused at every place by the same number
 module _ (n a : ℕ) (d : verdictOfWord n left a .number ≢ 0) where
@@ -93,8 +71,8 @@ module _ (n es a : ℕ) where
   range-passed : verdictOfRange n es a .number ≡ 0 → (isFormat n es ≡ true) × (verdictOfWord n left a .number ≡ 0)
   unfolding verdictOfRange
   range-passed z =
-      let p = passed (formatTest n es) (wordTest n left a ∷ infinityTest n left a ∷ []) refl z in
-      (not-false (isFormat n es) (p .0), p .1)
+      let p = passing-of {ts = formatTest n es ∷ wordTest n left a ∷ infinityTest n left a ∷ []} (one-refuses refl (one-refuses refl (one-refuses refl gives-none))) z in
+      (not-false (isFormat n es) (head-passes p), ap (λ (v : Verdict). v .number) (passing-done (tail-passes p)))
 
   pub range-format : verdictOfRange n es a .number ≡ 0 → Format n es
   range-format z = format-of (range-passed z .0)
@@ -116,10 +94,7 @@ module _ (n es a b : ℕ) where
   pub ranges-left : verdictOfRange n es a .number ≢ 0 → verdictOfRanges n es a b ≡ verdictOfRange n es a
   unfolding verdictOfRange verdictOfRanges
   ranges-left d =
-      refusal-stays (formatTest n es) _ _
-      (refusal-stays (wordTest n left a) _ _
-      (refusal-stays (infinityTest n left a) _ _ (λ e. absurd (e (ap (λ (v : Verdict). v .number) none-hits)))))
-      d
+      refusal-stays (formatTest n es ∷ wordTest n left a ∷ infinityTest n left a ∷ []) (wordTest n right b ∷ infinityTest n right b ∷ []) d
 
   pub ranges-right : verdictOfRange n es a .number ≡ 0 → verdictOfRanges n es a b ≡ verdictOfWord n right b
   unfolding verdictOfRanges
@@ -151,12 +126,8 @@ module _ (n es a b : ℕ) where
       let r = word-real n right b (right-done z) in
       ranges-right (left-done z) ∙ word-done n right b (r .fits) (r .no-infinity)
 
--- ---- an answer by what the machine says of its verdict
-pub refused-as-said : {v : Verdict} {r : Judged} {Right Refused : Type 0} → SaysVerdict v r → r .number ≢ 0 → Refused → Answers v (r .number) (r .place) Right Refused
-refused-as-said s d f = record { number-is = s .number; place-is = s .place; right = λ z. absurd (d (s .number ∙ z)); refused = λ z. f }
-
 -- ---- the comparisons: P is one of the three
-module _ (P : ℕ → ℕ → ℕ → ℕ → Type 0) (n es a b : ℕ) {r : Judged} (s : SaysVerdict (verdictOfRanges n es a b) r) where
+module _ (P : ℕ → ℕ → ℕ → ℕ → Type 0) (n es a b : ℕ) {r : Judged} (s : Says (verdictOfRanges n es a b) r) where
   pub comparison-refused : {t : Reply} → r .number ≢ 0 → t ≡ refusedReply (r .number) (r .place) → ComparisonOf P n es a b t
   comparison-refused d e = rw e (refused-as-said s d refl)
 
@@ -168,5 +139,5 @@ module _ (P : ℕ → ℕ → ℕ → ℕ → Type 0) (n es a b : ℕ) {r : Judg
       let q = ranges-real n es a b done-number in
       (f .wide-enough, f .not-too-wide, q .0, q .1)
 
-  pub comparison-done : {t : Reply} {yes : Bool} → r .number ≡ 0 → Says (P n es a b) yes → t ≡ doneReply yes → ComparisonOf P n es a b t
+  pub comparison-done : {t : Reply} {yes : Bool} → r .number ≡ 0 → Tells (P n es a b) yes → t ≡ doneReply yes → ComparisonOf P n es a b t
   comparison-done z y e = rw e (answers-done (ranges-done n es a b (sym (s .number) ∙ z)) y)

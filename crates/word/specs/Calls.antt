@@ -5,11 +5,10 @@ use mathlib.Core.Logic.{_↔_}
 use Prim.Native.Nat.{ℕ}
 use Rattle.exact.specs.Fraction.{Fraction, _≈_, negᶠ}
 use mathlib.Core.List.{[], _∷_}
-use Rattle.posit.specs.Refusal.{Answers, Verdict, firstHit}
+use Rattle.call.specs.Verdict.{Answers, Verdict, firstHit}
 use Rattle.word.specs.declared.answer.WordAnswer.{WordAnswer}
 use Rattle.word.specs.declared.answer.Reply.{Reply}
-use Rattle.word.specs.declared.inner.judge.Judged.{Judged}
-use Rattle.word.specs.Member.{Member, Inside, Meets, Below}
+use Rattle.word.specs.Member.{Member}
 use Rattle.word.specs.Smallest.{IsAnswer, Result}
 use Rattle.word.specs.Refusal.{verdictOfRange, verdictOfRanges, verdictOfRangeOperation, wordTest, infinityTest}
 
@@ -24,20 +23,15 @@ NegationOf n es a r =
     Answers (verdictOfRange n es a) (r .number) (r .place) (IsAnswer n es (Negative n es a) (r .word)) (r .word ≡ 0)
 
 -- a reply says yes exactly where P holds
-abbrev pub Says : Type 0 → Bool → Type 0
-Says P reply = (reply ≡ true) ↔ P
+abbrev pub Tells : Type 0 → Bool → Type 0
+Tells P reply = (reply ≡ true) ↔ P
 
 abbrev pub ComparisonOf : (ℕ → ℕ → ℕ → ℕ → Type 0) → ℕ → ℕ → ℕ → ℕ → Reply → Type 0
-ComparisonOf P n es a b r = Answers (verdictOfRanges n es a b) (r .number) (r .place) (Says (P n es a b) (r .yes)) (r .yes ≡ false)
+ComparisonOf P n es a b r = Answers (verdictOfRanges n es a b) (r .number) (r .place) (Tells (P n es a b) (r .yes)) (r .yes ≡ false)
 
 abbrev pub OperationOf : ℕ → ℕ → ℕ → ℕ → ℕ → WordAnswer → Type 0
 OperationOf n es op a b r =
     Answers (verdictOfRangeOperation n es op a b) (r .number) (r .place) (IsAnswer n es (Result n es op a b) (r .word)) (r .word ≡ 0)
-
--- a verdict as a pair of numbers
-pub record SaysVerdict (v : Verdict) (r : Judged) : Type 0 where
-  pub number : r .number ≡ v .number
-  pub place : r .place ≡ v .place
 
 -- the tests of one word: 3, then 4, at a place
 abbrev pub verdictOfWord : ℕ → ℕ → ℕ → Verdict

@@ -1,26 +1,33 @@
 -- The refusals of calls on ranges, in the order in which they are tested.
-use mathlib.Core.Bool.{Bool, true, false, _&&_}
+use mathlib.Core.Bool.{_&&_}
 use mathlib.Core.List.{List, [], _∷_}
 use Prim.Native.Nat.{ℕ}
 use lib.IntN.{pos}
 use lib.Dec.{leb, eqb}
 use Rattle.exact.specs.Fraction.{whole}
-use Rattle.posit.specs.Arithmetic.{divide}
-use Rattle.posit.specs.Refusal.{Verdict, Test, firstHit, left, right, formatTest, operationTest}
+use Rattle.call.specs.Operation.{over, operationTest}
+use Rattle.call.specs.Verdict.{Verdict, Test, firstHit}
+use Rattle.call.specs.Place.{left, right}
+use Rattle.posit.specs.Refusal.{formatTest}
+use Rattle.call.specs.Number.{tooLarge, holdsInfinity, zeroDivisor}
 use Rattle.word.specs.Word.{words, kind, isInfinite}
 use Rattle.word.specs.Member.{isMember}
 
 -- 3: range word of 2^(2n+2) or more
 abbrev pub wordTest : ℕ → ℕ → ℕ → Test
-wordTest n place w = record { hit = leb (words n) w; gives = record { number = 3; place = place } }
+wordTest n place w = record { hit = leb (words n) w; gives = record { number = tooLarge; place = place } }
 
 -- 4: the range holds infinity
 abbrev pub infinityTest : ℕ → ℕ → ℕ → Test
-infinityTest n place w = record { hit = isInfinite (kind n w); gives = record { number = 4; place = place } }
+infinityTest n place w = record { hit = isInfinite (kind n w); gives = record { number = holdsInfinity; place = place } }
+
+-- 3 and 4 for a word
+unfoldable pub wordTests : ℕ → ℕ → ℕ → List Test
+wordTests n place w = wordTest n place w ∷ infinityTest n place w ∷ []
 
 -- 5: the divisor range has 0 as a member
 abbrev pub divisorTest : ℕ → ℕ → ℕ → ℕ → Test
-divisorTest n es op w = record { hit = eqb op divide && isMember n es w (whole (pos 0)); gives = record { number = 5; place = right } }
+divisorTest n es op w = record { hit = eqb op over && isMember n es w (whole (pos 0)); gives = record { number = zeroDivisor; place = right } }
 
 -- 3 and 4 for both operands
 abbrev pub operandTests : ℕ → ℕ → ℕ → List Test → List Test

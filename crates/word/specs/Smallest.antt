@@ -8,7 +8,8 @@ use Rattle.bound.specs.Order.{dual}
 use Rattle.bound.specs.Bound.{Bound, map-bound}
 use Rattle.bound.specs.End.{Stands}
 use Rattle.bound.specs.Fractions.{fractions}
-use Rattle.posit.specs.Arithmetic.{divide, exactResult}
+use Rattle.call.specs.Operation.{over}
+use Rattle.posit.specs.Arithmetic.{exactResult}
 use Rattle.word.specs.Word.{kind, empty, emptyWord, startOf, endOf}
 use Rattle.word.specs.Member.{Real, Member, Inside}
 use Rattle.word.specs.Numbered.{count, numberOf, valueAt}
@@ -47,5 +48,5 @@ pub record Result (n es op a b : ℕ) (z : Fraction) : Type 0 where
   pub right : Fraction
   pub left-member : Member n es a left
   pub right-member : Member n es b right
-  pub divisor : op ≡ divide → ¬ (right ≈ whole (pos 0))
+  pub divisor : op ≡ over → ¬ (right ≈ whole (pos 0))
   pub is-result : z ≈ exactResult op left right

@@ -2,7 +2,7 @@
 use mathlib.Core.Path.{_≡_}
 use mathlib.Core.Logic.{_≢_}
 use Prim.Native.Nat.{ℕ}
-use Rattle.posit.specs.Refusal.{left}
+use Rattle.call.specs.Place.{left}
 use Rattle.word.specs.declared.inner.span.Span.{Span}
 use Rattle.word.specs.declared.inner.word.Taken.{Taken}
 use Rattle.word.specs.declared.inner.operands.Operands.{Operands}

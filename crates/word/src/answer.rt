@@ -1,4 +1,4 @@
-// What calls on ranges come back with, and the numbers of their refusals beside those of posits.
+// What calls on ranges come back with.
 pub struct WordAnswer {
     pub number: u32,
     pub place: u32,
@@ -11,9 +11,3 @@ pub struct Reply {
     pub place: u32,
     pub yes: bool,
 }
-
-pub const HOLDS_INFINITY: u32 = 4;
-
-pub const ZERO_DIVISOR: u32 = 5;
-
-pub const BAD_READING: u32 = 6;

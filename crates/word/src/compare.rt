@@ -7,8 +7,8 @@ use super::inner::cells::cells_below;
 use super::inner::cells::cells_inside;
 use super::inner::cells::cells_meet;
 use super::inner::judge::judge_ranges;
-use posit::answer::DONE;
-use posit::answer::LEFT;
+use call::number::DONE;
+use call::place::LEFT;
 
 fn refused(number: u32, place: u32) -> Reply
     ensures { λ r. ⌜ r ≡ refusedReply number place ⌝ }

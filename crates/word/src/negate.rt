@@ -3,8 +3,8 @@ ghost use Rattle.word.specs.Calls.{NegationOf};
 use super::answer::WordAnswer;
 use super::inner::judge::judge_range;
 use super::inner::turn::turned;
-use posit::answer::DONE;
-use posit::answer::LEFT;
+use call::number::DONE;
+use call::place::LEFT;
 
 pub fn negate(n: u32, es: u32, a: u64) -> WordAnswer
     ensures { λ r. ⌜ NegationOf n es a r ⌝ }

@@ -1,19 +1,14 @@
 // The tests of a call on two posits: the format, then the left operand, then the right one.
-ghost use mathlib.Core.Path.{_≡_};
 ghost use Rattle.posit.specs.Refusal.{verdictOfTwo};
-ghost use Rattle.posit.specs.Operation.{Says};
-use super::super::answer::DONE;
-use super::super::answer::LEFT;
-use super::super::answer::OUTSIDE_LIMITS;
-use super::super::answer::RIGHT;
-use super::super::answer::TOO_LARGE;
+ghost use Rattle.call.specs.Verdict.{Says};
 use super::format::is_format;
 use super::power::power32;
-
-pub struct Judged {
-    pub number: u32,
-    pub place: u32,
-}
+use call::judged::Judged;
+use call::number::DONE;
+use call::number::OUTSIDE_LIMITS;
+use call::number::TOO_LARGE;
+use call::place::LEFT;
+use call::place::RIGHT;
 
 pub fn judge(n: u32, es: u32, p: u32, q: u32) -> Judged
     ensures { λ r. ⌜ Says (verdictOfTwo n es p q) r ⌝ }

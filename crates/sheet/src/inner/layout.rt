@@ -2,19 +2,18 @@
 ghost use mathlib.Core.Path.{_≡_};
 ghost use Prim.Native.Nat.{_+_, _*_, _≤_};
 ghost use lib.ListN.{length, take, drop};
-ghost use Rattle.posit.specs.Refusal.{firstHit};
-ghost use Rattle.word.specs.Calls.{SaysVerdict};
+ghost use Rattle.call.specs.Verdict.{firstHit, Says};
 ghost use Rattle.sheet.specs.File.{hasMark, numberOf, wordsOf, fileTests};
-use super::super::counted::BAD_FILE;
-use super::super::counted::WRONG_LENGTH;
 use super::limits::MOST_INPUTS;
 use super::limits::MOST_STEPS;
 use super::limits::STEP_BYTES;
 use super::limits::at_start;
-use posit::answer::DONE;
-use posit::answer::OUTSIDE_LIMITS;
+use call::judged::Judged;
+use call::number::BAD_FILE;
+use call::number::DONE;
+use call::number::OUTSIDE_LIMITS;
+use call::number::WRONG_LENGTH;
 use posit::inner::format::is_format;
-use word::inner::judge::Judged;
 
 pub const HEAD_BYTES: usize = 9;
 
@@ -49,7 +48,7 @@ pub fn has_mark(file: &[u8]) -> bool
 
 // The file's own tests, in their order.
 pub fn judge_file(file: &[u8]) -> Judged
-    ensures { λ r. ⌜ SaysVerdict (firstHit (fileTests (now (file .entry)))) r ⌝ }
+    ensures { λ r. ⌜ Says (firstHit (fileTests (now (file .entry)))) r ⌝ }
 {
     if file.len() < HEAD_BYTES {
         return at_start(BAD_FILE);

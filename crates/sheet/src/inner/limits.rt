@@ -1,18 +1,16 @@
 // The tests of lengths: 1, 2, 7 and 9, at place 0.
 ghost use mathlib.Core.Path.{_≡_};
-ghost use Rattle.posit.specs.Refusal.{firstHit};
-ghost use Rattle.word.specs.Calls.{SaysVerdict};
+ghost use Rattle.call.specs.Verdict.{firstHit, Says};
 ghost use Rattle.sheet.specs.Column.{columnLimits};
 ghost use Rattle.sheet.specs.Sheet.{sheetLimits};
-use super::super::counted::NO_ROOM;
-use super::super::counted::WRONG_LENGTH;
-use posit::answer::DONE;
-use posit::answer::NO_OPERATION;
-use posit::answer::OUTSIDE_LIMITS;
+use call::judged::Judged;
+use call::number::DONE;
+use call::number::NO_OPERATION;
+use call::number::NO_ROOM;
+use call::number::OUTSIDE_LIMITS;
+use call::number::WRONG_LENGTH;
+use call::operation::LAST_OPERATION;
 use posit::inner::format::is_format;
-use word::inner::judge::Judged;
-
-pub const LAST_OPERATION: u8 = 3;
 
 pub const LONGEST_COLUMN: usize = 4096;
 
@@ -42,7 +40,7 @@ pub fn judge_columns(
     row: usize,
     lent: usize,
 ) -> Judged
-    ensures { λ r. ⌜ SaysVerdict (firstHit (columnLimits n es op left right row lent)) r ⌝ }
+    ensures { λ r. ⌜ Says (firstHit (columnLimits n es op left right row lent)) r ⌝ }
 {
     if !is_format(n, es) {
         return at_start(OUTSIDE_LIMITS);
@@ -67,7 +65,7 @@ pub fn judge_columns(
 
 // A sheet of so many inputs and bytes of steps.
 pub fn judge_sheet(n: u32, es: u32, inputs: usize, bytes: usize, lent: usize) -> Judged
-    ensures { λ r. ⌜ SaysVerdict (firstHit (sheetLimits n es inputs bytes lent)) r ⌝ }
+    ensures { λ r. ⌜ Says (firstHit (sheetLimits n es inputs bytes lent)) r ⌝ }
 {
     if !is_format(n, es) {
         return at_start(OUTSIDE_LIMITS);

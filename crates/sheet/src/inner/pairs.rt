@@ -4,23 +4,21 @@ ghost use mathlib.Core.List.{_++_};
 ghost use Prim.Native.Nat.{_≤_};
 ghost use lib.ListN.{length, drop};
 ghost use Rattle.posit.specs.Format.{Format};
-ghost use Rattle.posit.specs.Refusal.{firstHit};
-ghost use Rattle.word.specs.Calls.{SaysVerdict};
+ghost use Rattle.call.specs.Verdict.{firstHit, Says};
 ghost use Rattle.sheet.specs.Column.{pairTests, pairsTests, answersOf};
-use posit::answer::DONE;
-use posit::answer::LEFT;
-use word::answer::ZERO_DIVISOR;
-use word::inner::judge::Judged;
-use word::inner::judge::judge_word;
+use call::judged::Judged;
+use call::number::DONE;
+use call::number::ZERO_DIVISOR;
+use call::operation::DIVIDE;
+use call::place::LEFT;
 use range::inner::operate::operate_words;
 use signs::inner::zero::has_zero;
-
-const DIVIDE: u8 = 3;
+use word::inner::judge::judge_word;
 
 // One pair, at a place.
 pub fn judge_pair(n: u32, es: u32, op: u8, place: u32, a: u64, b: u64) -> Judged
     requires { ⌜ Format n es ⌝ }
-    ensures { λ r. ⌜ SaysVerdict (firstHit (pairTests n es op place a b)) r ⌝ }
+    ensures { λ r. ⌜ Says (firstHit (pairTests n es op place a b)) r ⌝ }
 {
     let left = judge_word(n, place, a);
     let left_number = left.number;
@@ -49,7 +47,7 @@ pub fn judge_pair(n: u32, es: u32, op: u8, place: u32, a: u64, b: u64) -> Judged
 // Every pair, in order; the place is the pair.
 pub fn judge_pairs(n: u32, es: u32, op: u8, left: &[u64], right: &[u64]) -> Judged
     requires { ⌜ (Format n es) × (length (now left) ≡ length (now right)) × (length (now left) ≤ 4096) ⌝ }
-    ensures { λ r. ⌜ SaysVerdict (firstHit (pairsTests n es op 0 (now (left .entry)) (now (right .entry)))) r ⌝ }
+    ensures { λ r. ⌜ Says (firstHit (pairsTests n es op 0 (now (left .entry)) (now (right .entry)))) r ⌝ }
 {
     let mut i: usize = 0;
     while i < left.len() {

@@ -4,20 +4,20 @@ ghost use mathlib.Core.List.{_++_};
 ghost use Prim.Native.Nat.{_+_, _/_, _%_, _≤_};
 ghost use lib.ListN.{length, take, drop};
 ghost use Rattle.posit.specs.Format.{Format};
-ghost use Rattle.posit.specs.Refusal.{firstHit};
-ghost use Rattle.word.specs.Calls.{SaysVerdict};
+ghost use Rattle.call.specs.Verdict.{firstHit, Says};
 ghost use Rattle.sheet.specs.Sheet.{stepTests, inputsTests};
 ghost use Rattle.sheet.specs.Working.{Reals, StepsWorked};
-use super::super::counted::NOT_EARLIER;
-use super::limits::LAST_OPERATION;
-use posit::answer::DONE;
-use posit::answer::LEFT;
-use posit::answer::NO_OPERATION;
-use word::answer::ZERO_DIVISOR;
-use word::inner::judge::Judged;
-use word::inner::judge::judge_word;
+use call::judged::Judged;
+use call::number::DONE;
+use call::number::NOT_EARLIER;
+use call::number::NO_OPERATION;
+use call::number::ZERO_DIVISOR;
+use call::operation::DIVIDE;
+use call::operation::LAST_OPERATION;
+use call::place::LEFT;
 use range::inner::operate::operate_words;
 use signs::inner::zero::has_zero;
+use word::inner::judge::judge_word;
 
 // The rows of a sheet, with the number and place that working it came to.
 pub struct Worked {
@@ -29,7 +29,7 @@ pub struct Worked {
 // Every input, in order; the place is the row.
 pub fn judge_inputs(n: u32, inputs: &[u64]) -> Judged
     requires { ⌜ (3 ≤ n) × (n ≤ 16) × (length (now inputs) ≤ 32) ⌝ }
-    ensures { λ r. ⌜ SaysVerdict (firstHit (inputsTests n 0 (now (inputs .entry)))) r ⌝ }
+    ensures { λ r. ⌜ Says (firstHit (inputsTests n 0 (now (inputs .entry)))) r ⌝ }
 {
     let mut i: usize = 0;
     while i < inputs.len() {
@@ -71,7 +71,7 @@ pub fn judge_step(
     rows: &[u64; 96],
 ) -> Judged
     requires { ⌜ (Format n es) × (length (now rows) ≡ 96) × (row ≤ 96) × (Reals n (take row (now rows))) ⌝ }
-    ensures { λ r. ⌜ SaysVerdict (firstHit (stepTests n es (take row (now (rows .entry))) (record { operation = op; left = left; right = right }))) r ⌝ }
+    ensures { λ r. ⌜ Says (firstHit (stepTests n es (take row (now (rows .entry))) (record { operation = op; left = left; right = right }))) r ⌝ }
 {
     if LAST_OPERATION < op {
         return Judged {
@@ -91,7 +91,7 @@ pub fn judge_step(
             place: row as u32,
         };
     }
-    if op == LAST_OPERATION {
+    if op == DIVIDE {
         if has_zero(n, es, rows[right]) {
             return Judged {
                 number: ZERO_DIVISOR,

@@ -2,10 +2,10 @@
 ghost use Rattle.word.specs.Taking.{TakesBoth};
 use super::span::Span;
 use super::word::take_word;
-use posit::answer::DONE;
-use posit::answer::LEFT;
-use posit::answer::OUTSIDE_LIMITS;
-use posit::answer::RIGHT;
+use call::number::DONE;
+use call::number::OUTSIDE_LIMITS;
+use call::place::LEFT;
+use call::place::RIGHT;
 use posit::inner::format::is_format;
 
 // The first refusal, or the cells of two real ranges.

@@ -4,7 +4,7 @@ ghost use Prim.Native.Nat.{_%_, _<_, _≤_};
 ghost use Rattle.word.specs.Word.{tiles, openNar};
 ghost use Rattle.word.specs.Member.{Real};
 ghost use Rattle.word.specs.Smallest.{IsAnswer};
-ghost use Rattle.word.specs.Calls.{Negative, Says};
+ghost use Rattle.word.specs.Calls.{Negative, Tells};
 ghost use Rattle.word.specs.Spans.{turnedTile};
 use super::span::joined;
 use super::word::end_tile;
@@ -23,7 +23,7 @@ fn turned_tile(n: u32, tile: u32) -> u32
 // Whether a real range with these ends is empty: the same posit, open at both.
 fn is_empty(n: u32, start: u32, end: u32) -> bool
     requires { ⌜ (3 ≤ n) × (n ≤ 16) ⌝ }
-    ensures { λ r. ⌜ Says ((start ≡ end) × (start % 2 ≡ 1) × (start ≡ openNar n → ⊥)) r ⌝ }
+    ensures { λ r. ⌜ Tells ((start ≡ end) × (start % 2 ≡ 1) × (start ≡ openNar n → ⊥)) r ⌝ }
 {
     if start != end {
         return false;

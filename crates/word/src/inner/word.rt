@@ -5,13 +5,13 @@ ghost use Rattle.word.specs.Word.{words, startTile, endTile};
 ghost use Rattle.word.specs.Member.{Real};
 ghost use Rattle.word.specs.Spans.{cellsOf};
 ghost use Rattle.word.specs.Taking.{TakesWord, withoutCells};
-use super::super::answer::HOLDS_INFINITY;
 use super::span::Span;
 use super::span::no_cells;
-use posit::answer::DONE;
-use posit::answer::TOO_LARGE;
-use posit::inner::power::power;
+use call::number::DONE;
+use call::number::HOLDS_INFINITY;
+use call::number::TOO_LARGE;
 use posit::inner::power::power32;
+use posit::inner::power::power;
 
 pub fn start_tile(n: u32, w: u64) -> u32
     requires { ⌜ (n ≤ 16) × (w < words n) ⌝ }

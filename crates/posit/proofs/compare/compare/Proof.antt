@@ -3,7 +3,8 @@ use mathlib.Core.Path.{refl, sym, _∙_}
 use native.Mathlib.Omega.{arith}
 use borrow.Author.Needs.{needs}
 use borrow.Author.Tests.{not-true, not-false}
-use Rattle.posit.proofs.Verdicts.{answers-refused, answers-done, format-of, two-outside, two-left, two-right, two-done}
+use Rattle.call.proofs.Answered.{answers-refused, answers-done}
+use Rattle.posit.proofs.Verdicts.{format-of, two-outside, two-left, two-right, two-done}
 use Rattle.posit.proofs.compare.compare.Statement.{statement}
 use Rattle.posit.proofs.compare.compare.Tie as tie
 

@@ -3,7 +3,8 @@ use mathlib.Core.Path.{refl, sym, _∙_}
 use native.Mathlib.Omega.{arith}
 use borrow.Author.Needs.{needs}
 use borrow.Author.Tests.{not-true, not-false}
-use Rattle.posit.proofs.Verdicts.{answers-refused, answers-done, format-of, one-outside, one-too-large, one-done}
+use Rattle.call.proofs.Answered.{answers-refused, answers-done}
+use Rattle.posit.proofs.Verdicts.{format-of, one-outside, one-too-large, one-done}
 use Rattle.posit.proofs.decode.decode.Statement.{statement}
 use Rattle.posit.proofs.decode.decode.Tie as tie
 

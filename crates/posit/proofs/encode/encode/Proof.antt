@@ -4,7 +4,8 @@ use mathlib.Core.Path.{_≡_, refl, sym, _∙_}
 use borrow.Author.Needs.{needs}
 use borrow.Author.Tests.{not-true, not-false}
 use Rattle.posit.specs.Format.{isFormat}
-use Rattle.posit.proofs.Verdicts.{answers-refused, answers-done, format-of, format-outside, format-done}
+use Rattle.call.proofs.Answered.{answers-refused, answers-done}
+use Rattle.posit.proofs.Verdicts.{format-of, format-outside, format-done}
 use Rattle.posit.proofs.encode.encode.Statement.{statement}
 use Rattle.posit.proofs.encode.encode.Tie as tie
 

@@ -1,16 +1,7 @@
 -- `posit::encode::locate_scaled` meets its contract: a scale of either sign goes to `locate` without loss, and what that locates is the number meant.
 use native.Mathlib.Omega.{arith}
 use borrow.Author.Needs.{needs}
-use Rattle.posit.proofs.ScalePlace.{
-  readBack-fits,
-  opposite-fits,
-  turned-natural,
-  turned-small,
-  scaled-down,
-  readBack-natural,
-  readBack-small,
-  scaled-up,
-}
+use Rattle.posit.proofs.ScalePlace.{readBack-fits, opposite-fits, turned-natural, turned-small, scaled-down, readBack-natural, readBack-small, scaled-up}
 use Rattle.posit.proofs.encode.locate_scaled.Statement.{statement}
 use Rattle.posit.proofs.encode.locate_scaled.Tie as tie
 

@@ -7,7 +7,8 @@ use lib.Ieee.{binary64, fits}
 use borrow.Author.Needs.{needs}
 use borrow.Author.Tests.{not-true, not-false}
 use Rattle.posit.specs.Format.{Format, isFormat}
-use Rattle.posit.proofs.Verdicts.{answers-refused, answers-done, format-of, format-outside, format-done}
+use Rattle.call.proofs.Answered.{answers-refused, answers-done}
+use Rattle.posit.proofs.Verdicts.{format-of, format-outside, format-done}
 use Rattle.posit.proofs.FloatExact.{nan-rounded, no-nan, own-bits}
 use Rattle.posit.proofs.from_float.from_float.Statement.{statement}
 use Rattle.posit.proofs.from_float.from_float.Tie as tie

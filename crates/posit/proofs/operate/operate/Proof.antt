@@ -3,7 +3,8 @@ use mathlib.Core.Path.{refl, sym, _∙_}
 use Prim.Native.Nat.{_<_}
 use native.Mathlib.Omega.{arith}
 use borrow.Author.Needs.{needs}
-use Rattle.posit.proofs.Verdicts.{answers-refused, operation-outside, operation-unknown}
+use Rattle.call.proofs.Answered.{answers-refused}
+use Rattle.posit.proofs.Verdicts.{operation-outside, operation-unknown}
 use Rattle.posit.proofs.operate.operate.Statement.{statement}
 use Rattle.posit.proofs.operate.operate.Tie as tie
 

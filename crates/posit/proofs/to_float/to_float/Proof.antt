@@ -6,7 +6,8 @@ use borrow.Author.Needs.{needs}
 use borrow.Author.Tests.{not-true, not-false}
 use Rattle.posit.specs.declared.float.Floated.the-variants.{Value}
 use Rattle.posit.specs.Format.{Format, isFormat}
-use Rattle.posit.proofs.Verdicts.{answers-refused, answers-done, format-of, one-outside, one-too-large, one-done}
+use Rattle.call.proofs.Answered.{answers-refused, answers-done}
+use Rattle.posit.proofs.Verdicts.{format-of, one-outside, one-too-large, one-done}
 use Rattle.posit.proofs.FloatExact.{zero-bits}
 use Rattle.posit.proofs.to_float.to_float.Statement.{statement}
 use Rattle.posit.proofs.to_float.to_float.Tie as tie

@@ -1,7 +1,7 @@
 -- `range::operate::add` meets its contract: the ranges are judged first, and the sum of real ones is the computed answer.
 use native.Mathlib.Omega.{arith}
 use borrow.Author.Needs.{needs}
-use Rattle.posit.specs.Operation.{plus}
+use Rattle.call.specs.Operation.{plus}
 use Rattle.range.proofs.Operations.{call-cells, call-refused, sum-done}
 use Rattle.range.proofs.operate.add.Statement.{statement}
 use Rattle.range.proofs.operate.add.Tie as tie

@@ -2,7 +2,7 @@
 use mathlib.Core.Path.{sym, _∙_}
 use native.Mathlib.Omega.{arith}
 use borrow.Author.Needs.{needs}
-use Rattle.posit.specs.Operation.{over}
+use Rattle.call.specs.Operation.{over}
 use Rattle.range.proofs.Operations.{call-asks, call-real-cells, call-refused, quotient-done, call-zero-divisor, zero-of-right}
 use Rattle.range.proofs.operate.divide.Statement.{statement}
 use Rattle.range.proofs.operate.divide.Tie as tie

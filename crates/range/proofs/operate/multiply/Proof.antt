@@ -1,7 +1,7 @@
 -- `range::operate::multiply` meets its contract: the ranges are judged first, and the product of real ones is the computed answer.
 use native.Mathlib.Omega.{arith}
 use borrow.Author.Needs.{needs}
-use Rattle.posit.specs.Operation.{times}
+use Rattle.call.specs.Operation.{times}
 use Rattle.range.proofs.Operations.{call-real-cells, call-refused, product-done}
 use Rattle.range.proofs.operate.multiply.Statement.{statement}
 use Rattle.range.proofs.operate.multiply.Tie as tie

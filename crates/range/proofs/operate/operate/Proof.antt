@@ -3,7 +3,7 @@ use mathlib.Core.Path.{refl, sym, _∙_}
 use Prim.Native.Nat.{_<_}
 use native.Mathlib.Omega.{arith}
 use borrow.Author.Needs.{needs}
-use Rattle.posit.proofs.Verdicts.{answers-refused}
+use Rattle.call.proofs.Answered.{answers-refused}
 use Rattle.range.proofs.Operations.{format-outside, number-unknown}
 use Rattle.range.proofs.operate.operate.Statement.{statement}
 use Rattle.range.proofs.operate.operate.Tie as tie

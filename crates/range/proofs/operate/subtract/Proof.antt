@@ -1,7 +1,7 @@
 -- `range::operate::subtract` meets its contract: the ranges are judged first, and the difference of real ones is the computed answer.
 use native.Mathlib.Omega.{arith}
 use borrow.Author.Needs.{needs}
-use Rattle.posit.specs.Operation.{minus}
+use Rattle.call.specs.Operation.{minus}
 use Rattle.range.proofs.Operations.{call-asks, call-cells, call-refused, difference-done}
 use Rattle.range.proofs.operate.subtract.Statement.{statement}
 use Rattle.range.proofs.operate.subtract.Tie as tie

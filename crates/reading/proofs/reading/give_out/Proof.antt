@@ -1,7 +1,8 @@
 -- `range::reading::give_out` meets its contract: the word is judged first, and a real one goes out.
 use borrow.Author.Needs.{needs}
 use mathlib.Core.Path.{sym, _∙_}
-use Rattle.word.proofs.Verdicts.{refused-as-said, range-format, range-real, range-done}
+use Rattle.call.proofs.Answered.{refused-as-said}
+use Rattle.word.proofs.Verdicts.{range-format, range-real, range-done}
 use Rattle.reading.proofs.GoingOut.{nothing-out, given-out}
 use Rattle.reading.proofs.reading.give_out.Statement.{statement}
 use Rattle.reading.proofs.reading.give_out.Tie as tie

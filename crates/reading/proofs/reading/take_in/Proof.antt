@@ -4,7 +4,8 @@ use mathlib.Core.Path.{_≡_, refl, sym, _∙_}
 use mathlib.Core.Bool.{true}
 use borrow.Author.Tests.{not-true, not-false}
 use Rattle.posit.specs.Format.{isFormat}
-use Rattle.posit.proofs.Verdicts.{answers-refused, answers-done, format-of}
+use Rattle.call.proofs.Answered.{answers-refused, answers-done}
+use Rattle.posit.proofs.Verdicts.{format-of}
 use Rattle.reading.proofs.Readings.{reading-outside, reading-bad, reading-done}
 use Rattle.reading.proofs.reading.take_in.Statement.{statement}
 use Rattle.reading.proofs.reading.take_in.Tie as tie

@@ -7,17 +7,17 @@ use Prim.Native.Nat.{ℕ, _-_}
 use native.Mathlib.Omega.{arith}
 use lib.ListN.{length, take, drop, length-take, length-drop}
 use borrow.Author.Needs.{needs}
-use Rattle.posit.specs.Refusal.{firstHit}
+use Rattle.call.specs.Verdict.{firstHit}
 use Rattle.sheet.specs.Accepted.{ColumnFits}
 use Rattle.sheet.specs.Column.{columnLimits, pairsTests, verdictOfColumns, answersOf}
 use Rattle.sheet.specs.Plains.{takesPlainWay}
-use Rattle.sheet.specs.Written.{Writes}
-use Rattle.sheet.proofs.Tests.{Passing, passing-of, passing-both, passing-done}
-use Rattle.sheet.proofs.Verdicts.{accepts, says-first, says-next}
+use Rattle.call.specs.Written.{Writes}
+use Rattle.call.proofs.Tests.{Passing, passing-of, passing-both, passing-done}
+use Rattle.call.proofs.Said.{accepts, says-first, says-next}
 use Rattle.sheet.proofs.Limits.{column-refusing, column-fits}
 use Rattle.sheet.proofs.Pairs.{pairs-refusing, length-answers}
 use Rattle.sheet.proofs.Plains.{plain-passes, way-plain}
-use Rattle.sheet.proofs.Written.{writes-refused, writes-done, part-back}
+use Rattle.call.proofs.Written.{writes-refused, writes-done, part-back}
 use Rattle.sheet.proofs.columns.combine.Statement.{statement}
 use Rattle.sheet.proofs.columns.combine.Tie as tie
 

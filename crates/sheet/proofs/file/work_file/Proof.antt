@@ -7,10 +7,10 @@ use lib.Seq.{length-take-le}
 use borrow.Author.Needs.{needs}
 use Rattle.sheet.specs.File.{inputCount, wordsOf, fileTests, verdictOfFile}
 use Rattle.sheet.specs.Accepted.{FileFits}
-use Rattle.sheet.proofs.Tests.{Passing, passing-of}
-use Rattle.sheet.proofs.Verdicts.{accepts, says-first}
+use Rattle.call.proofs.Tests.{Passing, passing-of}
+use Rattle.call.proofs.Said.{accepts, says-first}
 use Rattle.sheet.proofs.FileTests.{file-refusing, file-fits, all-behind, writes-file}
-use Rattle.sheet.proofs.Written.{writes-refused}
+use Rattle.call.proofs.Written.{writes-refused}
 use Rattle.sheet.proofs.file.work_file.Statement.{statement}
 use Rattle.sheet.proofs.file.work_file.Tie as tie
 

@@ -9,11 +9,11 @@ use lib.Seq.{length-take-le}
 use borrow.Author.Needs.{needs}
 use Rattle.sheet.specs.Accepted.{SheetFits}
 use Rattle.sheet.specs.Sheet.{stepsOf, rowsOf, sheetLimits, inputsTests, verdictOfSheet}
-use Rattle.sheet.proofs.Tests.{Passing, passing-of, passing-both, passing-done}
-use Rattle.sheet.proofs.Verdicts.{accepts, says-first, says-next}
+use Rattle.call.proofs.Tests.{Passing, passing-of, passing-both, passing-done}
+use Rattle.call.proofs.Said.{accepts, says-first, says-next}
 use Rattle.sheet.proofs.Limits.{sheet-refusing, sheet-fits}
 use Rattle.sheet.proofs.Steps.{inputs-refusing, inputs-real, steps-refusing}
-use Rattle.sheet.proofs.Written.{writes-refused, writes-done}
+use Rattle.call.proofs.Written.{writes-refused, writes-done}
 use Rattle.sheet.proofs.sheets.work.Statement.{statement}
 use Rattle.sheet.proofs.sheets.work.Tie as tie
 

@@ -1,8 +1,8 @@
 -- `range::negate::negate` meets its contract: the word is judged first, and a real one is turned.
 use mathlib.Core.Path.{refl, sym, _∙_}
 use borrow.Author.Needs.{needs}
-use Rattle.posit.proofs.Verdicts.{answers-done}
-use Rattle.word.proofs.Verdicts.{refused-as-said, range-format, range-real, range-done}
+use Rattle.call.proofs.Answered.{answers-done, refused-as-said}
+use Rattle.word.proofs.Verdicts.{range-format, range-real, range-done}
 use Rattle.word.proofs.negate.negate.Statement.{statement}
 use Rattle.word.proofs.negate.negate.Tie as tie
 

@@ -1,18 +1,7 @@
 -- `posit::inner::float_bits::float_of` meets its contract: sign, exponent and digits are put at their places, and reading them gives the number back.
 use native.Mathlib.Omega.{arith}
 use borrow.Author.Needs.{needs}
-use Rattle.posit.proofs.FloatMade.{
-  biased-sum-fits,
-  biased-fits,
-  highest-few,
-  exponent-most,
-  leading,
-  no-more,
-  size-fits,
-  positive-made,
-  negative-made,
-  number-bits,
-}
+use Rattle.posit.proofs.FloatMade.{biased-sum-fits, biased-fits, highest-few, exponent-most, leading, no-more, size-fits, positive-made, negative-made, number-bits}
 use Rattle.posit.proofs.inner.float_bits.float_of.Statement.{statement}
 use Rattle.posit.proofs.inner.float_bits.float_of.Tie as tie
 

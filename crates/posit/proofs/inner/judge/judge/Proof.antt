@@ -3,7 +3,8 @@ use mathlib.Core.Path.{sym, _∙_}
 use native.Mathlib.Omega.{arith}
 use borrow.Author.Needs.{needs}
 use borrow.Author.Tests.{not-true, not-false}
-use Rattle.posit.proofs.Verdicts.{says, format-of, two-outside, two-left, two-right, two-done}
+use Rattle.call.proofs.Said.{says}
+use Rattle.posit.proofs.Verdicts.{format-of, two-outside, two-left, two-right, two-done}
 use Rattle.posit.proofs.inner.judge.judge.Statement.{statement}
 use Rattle.posit.proofs.inner.judge.judge.Tie as tie
 

@@ -8,8 +8,9 @@ use borrow.Author.Needs.{needs}
 use borrow.Author.Tests.{lt-ltb, le-ltb, eq-eqb, ne-eqb, not-true, not-false}
 use Rattle.posit.specs.Refusal.{formatTest}
 use Rattle.sheet.specs.File.{hasMark, versionOf, widthOf, exponentSizeOf, inputCount, stepCount, fileTest, countTest, lengthOf, fileTests}
-use Rattle.sheet.proofs.Tests.{Passing, all-pass, one-passes, passing-both, passing-done}
-use Rattle.sheet.proofs.Verdicts.{says-hit, says-at, either-true}
+use Rattle.call.proofs.Tests.{Passing, all-pass, one-passes, passing-both, passing-done}
+use Rattle.call.proofs.Said.{says-hit, says-at}
+use Rattle.call.proofs.Facts.{either-true}
 use Rattle.sheet.proofs.inner.layout.judge_file.Statement.{statement}
 use Rattle.sheet.proofs.inner.layout.judge_file.Tie as tie
 

@@ -5,11 +5,11 @@ use mathlib.Core.List.{[], _∷_}
 use native.Mathlib.Omega.{arith}
 use borrow.Author.Needs.{needs}
 use borrow.Author.Tests.{lt-ltb, le-ltb, not-true, not-false}
-use Rattle.posit.specs.Refusal.{formatTest, operationTest}
+use Rattle.posit.specs.Refusal.{formatTest}
+use Rattle.call.specs.Operation.{operationTest}
 use Rattle.sheet.specs.Refusal.{lengthTest, roomTest}
-use Rattle.sheet.proofs.Tests.{Passing, all-pass, one-passes, passing-both}
-use Rattle.sheet.proofs.Verdicts.{says-hit, says-at}
-use Rattle.sheet.proofs.Tests.{passing-done}
+use Rattle.call.proofs.Tests.{Passing, all-pass, one-passes, passing-both, passing-done}
+use Rattle.call.proofs.Said.{says-hit, says-at}
 use Rattle.sheet.proofs.Limits.{unequal-hits, long-hits, length-passes}
 use Rattle.sheet.proofs.inner.limits.judge_columns.Statement.{statement}
 use Rattle.sheet.proofs.inner.limits.judge_columns.Tie as tie

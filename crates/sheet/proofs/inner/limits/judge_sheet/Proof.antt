@@ -8,8 +8,8 @@ use borrow.Author.Needs.{needs}
 use borrow.Author.Tests.{lt-ltb, le-ltb, not-true, not-false}
 use Rattle.posit.specs.Refusal.{formatTest}
 use Rattle.sheet.specs.Refusal.{sizeTest, roomTest}
-use Rattle.sheet.proofs.Tests.{Passing, all-pass, one-passes, passing-both, passing-done}
-use Rattle.sheet.proofs.Verdicts.{says-hit, says-at}
+use Rattle.call.proofs.Tests.{Passing, all-pass, one-passes, passing-both, passing-done}
+use Rattle.call.proofs.Said.{says-hit, says-at}
 use Rattle.sheet.proofs.Limits.{inputs-hit, steps-hit, bytes-hit, size-passes}
 use Rattle.sheet.proofs.inner.limits.judge_sheet.Statement.{statement}
 use Rattle.sheet.proofs.inner.limits.judge_sheet.Tie as tie

@@ -2,9 +2,11 @@
 use mathlib.Core.Path.{refl}
 use mathlib.Core.List.{[]}
 use borrow.Author.Needs.{needs}
-use Rattle.sheet.specs.Refusal.{wordTests, divisorTestAt}
-use Rattle.sheet.proofs.Tests.{Passing, all-pass, one-passes, passing-both}
-use Rattle.sheet.proofs.Verdicts.{says-first, says-next, says-hit, says-done, word-says, word-passing, passing-real}
+use Rattle.word.specs.Refusal.{wordTests}
+use Rattle.sheet.specs.Refusal.{divisorTestAt}
+use Rattle.call.proofs.Tests.{Passing, all-pass, one-passes, passing-both}
+use Rattle.call.proofs.Said.{says-first, says-next, says-hit, says-done}
+use Rattle.word.proofs.WordTests.{word-says, word-passing, passing-real}
 use Rattle.sheet.proofs.Pairs.{divisor-hits, divisor-passes, not-a-division}
 use Rattle.sheet.proofs.inner.pairs.judge_pair.Statement.{statement}
 use Rattle.sheet.proofs.inner.pairs.judge_pair.Tie as tie

@@ -5,12 +5,11 @@ use Prim.Native.Nat.{_+_, _-_, _≤_}
 use native.Mathlib.Omega.{arith}
 use lib.ListN.{length, getD, drop}
 use borrow.Author.Needs.{needs}
-use Rattle.posit.specs.Refusal.{firstHit}
-use Rattle.posit.proofs.Verdicts.{none-hits}
+use Rattle.call.specs.Verdict.{firstHit}
+use Rattle.call.proofs.FirstHit.{none-hits}
 use Rattle.sheet.specs.Column.{pairTests, pairsTests}
-use Rattle.sheet.proofs.Tests.{passing-of, passing-skips}
-use Rattle.word.proofs.Verdicts.{says, says-by}
-use Rattle.sheet.proofs.Verdicts.{says-first, accepts}
+use Rattle.call.proofs.Tests.{passing-of, passing-skips}
+use Rattle.call.proofs.Said.{says, says-by, says-first, accepts}
 use Rattle.sheet.proofs.Pairs.{pair-refusing, pairs-next, pairs-end}
 use Rattle.sheet.proofs.inner.pairs.judge_pairs.Statement.{statement}
 use Rattle.sheet.proofs.inner.pairs.judge_pairs.Tie as tie

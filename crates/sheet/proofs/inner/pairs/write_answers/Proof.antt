@@ -6,7 +6,7 @@ use lib.ListN.{length, getD}
 use borrow.Author.Needs.{needs}
 use Rattle.sheet.specs.Accepted.{PairFits}
 use Rattle.sheet.specs.Column.{answersOf}
-use Rattle.sheet.proofs.Tests.{passing-of}
+use Rattle.call.proofs.Tests.{passing-of}
 use Rattle.sheet.proofs.Copies.{Copied, copy-none, copy-one, copy-length, copy-whole}
 use Rattle.sheet.proofs.Pairs.{pairs-refusing, pair-passes, length-answers, answer-at}
 use Rattle.sheet.proofs.inner.pairs.write_answers.Statement.{statement}

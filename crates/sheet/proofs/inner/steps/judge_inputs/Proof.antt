@@ -5,13 +5,13 @@ use Prim.Native.Nat.{_+_, _-_, _≤_}
 use native.Mathlib.Omega.{arith}
 use lib.ListN.{length, getD, drop}
 use borrow.Author.Needs.{needs}
-use Rattle.posit.specs.Refusal.{firstHit}
-use Rattle.posit.proofs.Verdicts.{none-hits}
-use Rattle.sheet.specs.Refusal.{wordTests}
+use Rattle.call.specs.Verdict.{firstHit}
+use Rattle.call.proofs.FirstHit.{none-hits}
+use Rattle.word.specs.Refusal.{wordTests}
 use Rattle.sheet.specs.Sheet.{inputsTests}
-use Rattle.sheet.proofs.Tests.{passing-skips}
-use Rattle.word.proofs.Verdicts.{says, says-by}
-use Rattle.sheet.proofs.Verdicts.{says-first, word-says, word-passing}
+use Rattle.call.proofs.Tests.{passing-skips}
+use Rattle.call.proofs.Said.{says, says-by, says-first}
+use Rattle.word.proofs.WordTests.{word-says, word-passing}
 use Rattle.sheet.proofs.Steps.{inputs-next, inputs-end}
 use Rattle.sheet.proofs.inner.steps.judge_inputs.Statement.{statement}
 use Rattle.sheet.proofs.inner.steps.judge_inputs.Tie as tie

@@ -10,9 +10,10 @@ use borrow.Author.Needs.{needs}
 use borrow.Author.Tests.{lt-ltb, le-ltb}
 use Rattle.exact.specs.Fraction.{whole}
 use Rattle.word.specs.Member.{Real, isMember}
-use Rattle.sheet.specs.Refusal.{operationTestAt, earlierTest, divisorTestAt}
-use Rattle.sheet.proofs.Tests.{Passing, all-pass, one-passes, passing-both}
-use Rattle.sheet.proofs.Verdicts.{says-hit, says-done}
+use Rattle.call.specs.Operation.{operationTestAt}
+use Rattle.sheet.specs.Refusal.{earlierTest, divisorTestAt}
+use Rattle.call.proofs.Tests.{Passing, all-pass, one-passes, passing-both}
+use Rattle.call.proofs.Said.{says-hit, says-done}
 use Rattle.sheet.proofs.Pairs.{divisor-hits, divisor-passes, not-a-division}
 use Rattle.sheet.proofs.Steps.{left-not-earlier, right-not-earlier, both-earlier}
 use Rattle.sheet.proofs.inner.steps.judge_step.Statement.{statement}

@@ -6,12 +6,12 @@ use native.Mathlib.Omega.{arith}
 use lib.ListN.{length, getD, take, drop, length-set}
 use lib.Seq.{length-take-le, getD-take}
 use borrow.Author.Needs.{needs}
-use Rattle.posit.specs.Refusal.{Verdict}
+use Rattle.call.specs.Verdict.{Verdict}
 use Rattle.word.specs.Member.{Real}
 use Rattle.sheet.specs.Accepted.{StepFits}
 use Rattle.sheet.specs.Sheet.{Step, stepsOf, stepTests}
-use Rattle.sheet.proofs.Tests.{Passing, passing-of}
-use Rattle.sheet.proofs.Verdicts.{accepts}
+use Rattle.call.proofs.Tests.{Passing, passing-of}
+use Rattle.call.proofs.Said.{accepts}
 use Rattle.sheet.proofs.Steps.{Working, working-none, working-one, working-refused, working-all, steps-next, steps-end, step-refusing, step-fits, row-put}
 use Rattle.sheet.proofs.inner.steps.work_steps.Statement.{statement}
 use Rattle.sheet.proofs.inner.steps.work_steps.Tie as tie

@@ -3,7 +3,8 @@ use mathlib.Core.Path.{sym, _∙_}
 use borrow.Author.Needs.{needs}
 use borrow.Author.Tests.{not-true, not-false}
 use Rattle.posit.proofs.Verdicts.{format-of}
-use Rattle.word.proofs.Verdicts.{says, says-by, range-outside, range-inside}
+use Rattle.call.proofs.Said.{says, says-by}
+use Rattle.word.proofs.Verdicts.{range-outside, range-inside}
 use Rattle.word.proofs.inner.judge.judge_range.Statement.{statement}
 use Rattle.word.proofs.inner.judge.judge_range.Tie as tie
 

@@ -3,8 +3,8 @@ use mathlib.Core.Path.{_≡_}
 use mathlib.Core.List.{List, _++_}
 use Prim.Native.Nat.{ℕ, zero, suc, _+_}
 use lib.ListN.{length, take, drop}
-use Rattle.posit.specs.Refusal.{Verdict}
-use Rattle.sheet.specs.declared.counted.Counted.{Counted}
+use Rattle.call.specs.Verdict.{Verdict}
+use Rattle.call.specs.declared.counted.Counted.{Counted}
 
 -- by the number of the verdict: the count of words written, and 0 where the call is refused
 abbrev pub countOf : ℕ → ℕ → ℕ

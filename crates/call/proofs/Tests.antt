@@ -5,8 +5,8 @@ use mathlib.Core.Logic.{_≢_, _↔_, _⊎_, inl, inr, ⊎-elim}
 use mathlib.Core.List.{List, [], _∷_, _++_}
 use Prim.Native.Nat.{ℕ, zero, suc}
 use native.Mathlib.Nat.{suc-ne-zero}
-use Rattle.posit.specs.Refusal.{Verdict, Test, done, firstHit}
-use Rattle.posit.proofs.Verdicts.{hits, passes, none-hits}
+use Rattle.call.specs.Verdict.{Verdict, Test, done, firstHit}
+use Rattle.call.proofs.FirstHit.{hits, passes, none-hits}
 
 -- no test hits
 pub data Passing : List Test → Type 0 where

@@ -4,9 +4,9 @@ use mathlib.Core.Logic.{_↔_, ⊎-elim}
 use mathlib.Core.List.{List, [], _++_}
 use Prim.Native.Nat.{ℕ, zero, suc, _<_, suc-le-suc}
 use native.Mathlib.Nat.{zero-lt-suc, not-suc-le-zero, le-of-suc-le-suc}
-use Rattle.posit.specs.Refusal.{Verdict, Test, firstHit}
-use Rattle.posit.proofs.Verdicts.{none-hits}
-use Rattle.sheet.proofs.Tests.{Passing, all-pass, passing-parts, passing-both, passing-skips, Refusal, Refusing, refusal-stays, refused-by-parts}
+use Rattle.call.specs.Verdict.{Verdict, Test, firstHit}
+use Rattle.call.proofs.FirstHit.{none-hits}
+use Rattle.call.proofs.Tests.{Passing, all-pass, passing-parts, passing-both, passing-skips, Refusal, Refusing, refusal-stays, refused-by-parts}
 
 -- the lists of the places 0 to m - 1, one behind the other
 unfoldable pub joined : (ℕ → List Test) → ℕ → List Test

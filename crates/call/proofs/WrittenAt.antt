@@ -6,9 +6,9 @@ use Prim.Native.Nat.{ℕ, zero, suc, _+_, _≤_, _<_}
 use native.Mathlib.Omega.{arith}
 use lib.ListN.{length, getD, take, drop, length-append, List·getD-append}
 use lib.Seq.{length-take-le, getD-take, getD-drop, getD-append-add}
-use Rattle.posit.specs.Refusal.{Verdict}
-use Rattle.sheet.specs.declared.counted.Counted.{Counted}
-use Rattle.sheet.specs.Written.{Writes, overwritten, laterOf}
+use Rattle.call.specs.Verdict.{Verdict}
+use Rattle.call.specs.declared.counted.Counted.{Counted}
+use Rattle.call.specs.Written.{Writes, overwritten, laterOf}
 
 module _ (row : ℕ) (words lent : List ℕ) (room : row + length words ≤ length lent) where
   before-length : length (take row lent) ≡ row

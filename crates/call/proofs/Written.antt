@@ -6,11 +6,10 @@ use Prim.Native.Nat.{ℕ, zero, suc, _+_, _-_, _≤_}
 use native.Mathlib.Omega.{arith}
 use lib.ListN.{length, take, drop, length-drop, drop-of-length-le}
 use lib.Seq.{take-all, drop-drop}
-use Rattle.posit.specs.Refusal.{Verdict, done}
-use Rattle.word.specs.declared.inner.judge.Judged.{Judged}
-use Rattle.word.specs.Calls.{SaysVerdict}
-use Rattle.sheet.specs.Written.{Writes, countOf, laterOf, overwritten}
-use Rattle.sheet.proofs.Verdicts.{refuses}
+use Rattle.call.specs.Verdict.{Verdict, done, Says}
+use Rattle.call.specs.declared.judged.Judged.{Judged}
+use Rattle.call.specs.Written.{Writes, countOf, laterOf, overwritten}
+use Rattle.call.proofs.Said.{refuses}
 
 -- where the number is not 0
 count-refused : (k count : ℕ) → k ≢ 0 → 0 ≡ countOf k count
@@ -21,7 +20,7 @@ later-refused : (k row : ℕ) (words lent : List ℕ) → k ≢ 0 → lent ≡ l
 later-refused zero row words lent d = absurd (d refl)
 later-refused (suc k) row words lent d = refl
 
-pub writes-refused : {v : Verdict} {row : ℕ} {words lent : List ℕ} {j : Judged} → SaysVerdict v j → j .number ≢ 0
+pub writes-refused : {v : Verdict} {row : ℕ} {words lent : List ℕ} {j : Judged} → Says v j → j .number ≢ 0
     → Writes v row words lent lent (record { number = j .number; place = j .place; count = 0 })
 writes-refused {v} {row} {words} {lent} s d =
     record {

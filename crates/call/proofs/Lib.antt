@@ -1,0 +1,9 @@
+
+pub mod Facts
+pub mod FirstHit
+pub mod Answered
+pub mod Tests
+pub mod Blocks
+pub mod Said
+pub mod Written
+pub mod WrittenAt
