@@ -1,11 +1,10 @@
 // One operation on two columns, exported: each slice comes as a pointer and a length.
-ghost use Prim.Native.Nat.{ℕ};
 ghost use lib.ListN.{length};
-ghost use Rattle.sheet.specs.Column.{verdictOfColumns, answersOf};
+ghost use Rattle.column.specs.Column.{verdictOfColumns, answersOf};
 ghost use Rattle.cabi.specs.SheetCalls.{WritesAs};
 use super::sheet_shape::SheetAnswer;
 use super::sheet_shape::of_counted;
-use sheet::columns::combine;
+use column::columns::combine;
 
 #[no_mangle]
 pub extern "C" fn jorumrain_columns_combine(

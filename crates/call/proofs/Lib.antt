@@ -5,5 +5,6 @@ pub mod Answered
 pub mod Tests
 pub mod Blocks
 pub mod Said
+pub mod Copies
 pub mod Written
 pub mod WrittenAt

@@ -2,8 +2,10 @@
 use mathlib.Core.Path.{_≡_}
 use mathlib.Core.List.{List, _++_}
 use Prim.Native.Nat.{ℕ, zero, suc, _+_}
+use lib.Dec.{ltb}
 use lib.ListN.{length, take, drop}
-use Rattle.call.specs.Verdict.{Verdict}
+use Rattle.call.specs.Number.{noRoom}
+use Rattle.call.specs.Verdict.{Verdict, Test}
 use Rattle.call.specs.declared.counted.Counted.{Counted}
 
 -- by the number of the verdict: the count of words written, and 0 where the call is refused
@@ -26,3 +28,7 @@ pub record Writes (v : Verdict) (row : ℕ) (words before after : List ℕ) (r :
   pub place : r .place ≡ v .place
   pub count : r .count ≡ countOf (v .number) (length words)
   pub later : after ≡ laterOf (v .number) row words before
+
+-- 9: the named row plus the words to be written exceeds the lent column's length
+abbrev pub roomTest : ℕ → ℕ → ℕ → Test
+roomTest row count lent = record { hit = ltb lent (row + count); gives = record { number = noRoom; place = 0 } }

@@ -21,6 +21,9 @@ format-of {n} {es} e =
     let t = both-parts (leb 3 n) (leb n 16) (s .0) in
     record { wide-enough = leb-true 3 n (t .0); not-too-wide = leb-true n 16 (t .1); exponent-fits = leb-true es 2 (s .1) }
 
+pub format-clear : {n es : ℕ} → Format n es → not (isFormat n es) ≡ false
+format-clear {n} {es} f = rw (le-leb 3 n (f .wide-enough), le-leb n 16 (f .not-too-wide), le-leb es 2 (f .exponent-fits))
+
 format-hits : (n es : ℕ) (ts : List Test) → isFormat n es ≡ false → firstHit (formatTest n es ∷ ts) ≡ record { number = 1; place = 0 }
 format-hits n es ts e = hits (formatTest n es) ts (ap not e)
 

@@ -10,12 +10,12 @@ use native.Mathlib.Omega.{arith}
 use native.Mathlib.Decide.{ℕ-discrete}
 use lib.IntN.{pos}
 use lib.Dec.{eqb}
-use borrow.Author.Tests.{lt-ltb, le-ltb, lt-leb, not-false}
+use borrow.Author.Tests.{lt-ltb, le-ltb, not-false}
 use Rattle.exact.specs.Fraction.{whole}
 use Rattle.posit.specs.Format.{Format, isFormat}
 use Rattle.call.specs.Operation.{over, plus, minus, times, operationTest}
-use Rattle.call.specs.Verdict.{Verdict, Test, firstHit}
-use Rattle.call.specs.Place.{left, right}
+use Rattle.call.specs.Verdict.{Test, firstHit}
+use Rattle.call.specs.Place.{right}
 use Rattle.posit.specs.Refusal.{formatTest}
 use Rattle.call.proofs.FirstHit.{hits, passes, none-hits}
 use Rattle.call.proofs.Answered.{answers-done, answers-refused, refused-as-said}
@@ -24,16 +24,16 @@ use Rattle.word.specs.declared.answer.WordAnswer.{WordAnswer}
 use Rattle.word.specs.declared.inner.span.Span.{Span}
 use Rattle.word.specs.declared.inner.operands.Operands.{Operands}
 use Rattle.word.specs.declared.inner.operands.Operands.the-variants as operands
-use Rattle.word.specs.Word.{words}
 use Rattle.word.specs.Member.{Real, isMember}
-use Rattle.word.specs.Refusal.{verdictOfRanges, verdictOfRangeOperation, wordTest, infinityTest, operandTests, divisorTest}
+use Rattle.word.specs.Refusal.{verdictOfRanges, verdictOfRangeOperation, operandTests, divisorTest}
 use Rattle.word.specs.Calls.{OperationOf, doneWord, refusedWord}
 use Rattle.word.specs.Spans.{cellsOf, mirrored, Cells, RealCells, wordAt}
 use Rattle.cell.specs.Cells.{sumCells}
 use Rattle.signs.specs.Signs.{hasZero, productCells, quotientCells}
 use Rattle.word.specs.Taking.{TakesBoth}
 use Rattle.word.specs.Computed.{answerOf}
-use Rattle.word.proofs.Verdicts.{refusal-stays, passed, ranges-format, ranges-real}
+use Rattle.call.proofs.Tests.{one-refuses, gives-none, head-passes, first-passes, passing-of, passing-skips, refusal-stays}
+use Rattle.word.proofs.Verdicts.{ranges-format, ranges-real}
 use Rattle.call.proofs.Said.{says-by}
 use Rattle.word.proofs.Taking.{refused-both, passed-both, both-refused}
 use Rattle.word.proofs.RealWords.{cells-at-hand, real-cells-at-hand}
@@ -64,7 +64,7 @@ module _ (n es op a b : ℕ) where
 
   operation-format : verdictOfRangeOperation n es op a b .number ≡ 0 → Format n es
   unfolding verdictOfRangeOperation
-  operation-format z = format-of (not-false (isFormat n es) (passed (formatTest n es) _ refl z .0))
+  operation-format z = format-of (not-false (isFormat n es) (head-passes (first-passes {ts = formatTest n es ∷ []} (one-refuses refl gives-none) _ z)))
 
   module _ (known : op ≤ 3) where
     abbrev divisors : List Test
@@ -76,23 +76,15 @@ module _ (n es op a b : ℕ) where
 
     operation-refused : verdictOfRanges n es a b .number ≢ 0 → verdictOfRangeOperation n es op a b ≡ verdictOfRanges n es a b
     unfolding verdictOfRanges
-    operation-refused d =
-        number-known
-        ∙ refusal-stays (formatTest n es) _ _
-        (refusal-stays (wordTest n left a) _ _
-        (refusal-stays (infinityTest n left a) _ _
-        (refusal-stays (wordTest n right b) _ _
-        (refusal-stays (infinityTest n right b) _ _ (λ e. absurd (e (ap (λ (v : Verdict). v .number) none-hits)))))))
-        d
+    operation-refused d = number-known ∙ refusal-stays (formatTest n es ∷ operandTests n a b []) divisors d
 
     operation-divisor : verdictOfRanges n es a b .number ≡ 0 → verdictOfRangeOperation n es op a b ≡ firstHit divisors
     unfolding verdictOfRanges
     operation-divisor z =
-        let p = passed (formatTest n es) (operandTests n a b []) refl z in
-        let (q, r) = ranges-real n es a b z in
-        number-known ∙ passes (formatTest n es) _ (p .0)
-        ∙ passes (wordTest n left a) _ (lt-leb (words n) a (q .fits)) ∙ passes (infinityTest n left a) _ (q .no-infinity)
-        ∙ passes (wordTest n right b) _ (lt-leb (words n) b (r .fits)) ∙ passes (infinityTest n right b) _ (r .no-infinity)
+        number-known
+        ∙ passing-skips
+        (passing-of {ts = formatTest n es ∷ operandTests n a b []} (one-refuses refl (one-refuses refl (one-refuses refl (one-refuses refl (one-refuses refl gives-none))))) z)
+        divisors
 
 -- ---- the call, by what was taken of its operands
 module _ (n es a b : ℕ) {o : Operands} (t : TakesBoth n es a b o) where

@@ -22,7 +22,7 @@ use Rattle.word.proofs.Empty.{empty-answer-iff}
 use Rattle.word.proofs.Sheets.{no-zero-member, result-in-answer}
 use Rattle.call.specs.declared.counted.Counted.{Counted}
 use Rattle.word.specs.Refusal.{wordTests}
-use Rattle.sheet.specs.Refusal.{holdsZero}
+use Rattle.column.specs.Refusal.{holdsZero}
 use Rattle.sheet.specs.Accepted.{SheetAccepted, rowsBefore}
 use Rattle.sheet.specs.Sheet.{Step, noStep, stepsOf, rowsOf, verdictOfSheet}
 use Rattle.sheet.specs.Depends.{DependsOn, itself, by-left, by-right}

@@ -25,7 +25,7 @@ use Rattle.sheet.specs.Sheet.{Step, stepsOf, answerOfStep, withRow, rows
 use Rattle.sheet.specs.Working.{Reals}
 use Rattle.call.proofs.Tests.{Passing, all-pass, one-passes, Refusing, gives-none, one-refuses, gives-both, passing-parts, passing-skips, head-passes, tail-passes}
 use Rattle.call.proofs.Blocks.{joined, joined-same}
-use Rattle.sheet.proofs.Pairs.{divisor-clear, divisor-clears}
+use Rattle.column.proofs.Pairs.{divisor-clear, divisor-clears}
 use Rattle.call.proofs.Said.{says-by, says-first}
 use Rattle.word.proofs.WordTests.{word-refusing, passing-real}
 use Rattle.call.proofs.Facts.{either-true, either-false}

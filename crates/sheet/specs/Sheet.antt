@@ -5,7 +5,9 @@ use lib.ListN.{length, getD}
 use Rattle.call.specs.Verdict.{Verdict, Test, firstHit}
 use Rattle.posit.specs.Refusal.{formatTest}
 use Rattle.word.specs.Computed.{answerOf}
-use Rattle.sheet.specs.Refusal.{stepBytes, divisorTestAt, sizeTest, earlierTest, roomTest}
+use Rattle.sheet.specs.Refusal.{stepBytes, sizeTest, earlierTest}
+use Rattle.column.specs.Refusal.{divisorTestAt}
+use Rattle.call.specs.Written.{roomTest}
 use Rattle.word.specs.Refusal.{wordTests}
 use Rattle.call.specs.Operation.{operationTestAt}
 

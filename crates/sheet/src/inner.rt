@@ -1,6 +1,3 @@
-// The tests of columns, sheets and files, and the words that they write.
-pub mod layout;
+// What the layers above use of sheets beside the public call; these functions may ask something of their caller.
 pub mod limits;
-pub mod pairs;
-pub mod plains;
 pub mod steps;

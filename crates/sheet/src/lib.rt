@@ -1,5 +1,3 @@
-// Columns, sheets and sheet files over ranges: each call is answered, or refused by number and place.
-pub mod columns;
-pub mod file;
+// Sheets of ranges worked into a lent column, and what is true along a whole sheet.
 pub mod inner;
 pub mod sheets;

@@ -6,9 +6,9 @@ use Rattle.posit.specs.Value.{multiple, units}
 use Rattle.posit.specs.Nearest.{floorUpTo, chosen, nearestAbove, nearest}
 use Rattle.word.specs.Computed.{answerOf}
 use Rattle.word.specs.Word.{kindOfTiles}
-use Rattle.sheet.specs.File.{numberOf, wordsOf, fileOf, hasMark, verdictOfFile, rowsOfFile}
+use Rattle.file.specs.File.{numberOf, wordsOf, fileOf, hasMark, verdictOfFile, rowsOfFile}
 use Rattle.word.specs.Refusal.{wordTests}
-use Rattle.sheet.specs.Refusal.{holdsZero}
+use Rattle.column.specs.Refusal.{holdsZero}
 use Rattle.sheet.specs.Sheet.{stepsOf, rowsOf, inputsTests, stepsTests}
 use Rattle.text.specs.Example.{exampleFile, exampleText}
 use Rattle.text.specs.FileText.{textOfFile}

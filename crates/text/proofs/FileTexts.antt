@@ -7,12 +7,12 @@ use native.Mathlib.Nat.{zero-add}
 use native.Mathlib.Omega.{arith}
 use lib.ListN.{length, take, drop, length-append}
 use lib.Seq.{take-at}
-use Rattle.sheet.specs.File.{widthOf, exponentSizeOf, inputsPart, stepsPart, fileOf, verdictOfFile, rowsOfFile}
+use Rattle.file.specs.File.{widthOf, exponentSizeOf, inputsPart, stepsPart, fileOf, verdictOfFile, rowsOfFile}
 use Rattle.sheet.specs.Sheet.{stepsOf}
-use Rattle.sheet.specs.Accepted.{FileAccepted}
+use Rattle.file.specs.Accepted.{FileAccepted}
 use Rattle.call.specs.Written.{Writes, countOf, laterOf}
 use Rattle.call.specs.declared.counted.Counted.{Counted}
-use Rattle.sheet.proofs.FileVerdict.{file-done-exactly}
+use Rattle.file.proofs.FileVerdict.{file-done-exactly}
 use Rattle.sheet.proofs.Rows.{length-rows, length-steps}
 use Rattle.text.specs.FileText.{mostRows, textOfFile, Leaves}
 use Rattle.text.specs.Put.{Put}

@@ -13,10 +13,10 @@ use borrow.Author.Tests.{le-ltb, ltb-false, ne-eqb}
 use Rattle.call.specs.Verdict.{Verdict, Test, firstHit}
 use Rattle.posit.specs.Refusal.{formatTest}
 use Rattle.call.proofs.FirstHit.{hits}
-use Rattle.sheet.specs.File.{headBytes, hasMark, version, versionOf, widthOf, exponentSizeOf, inputCount, stepCount, lengthOf, fileTest, countTest, fileTests, verdictOfFile}
+use Rattle.file.specs.File.{headBytes, hasMark, version, versionOf, widthOf, exponentSizeOf, inputCount, stepCount, lengthOf, fileTest, countTest, fileTests, verdictOfFile}
 use Rattle.sheet.specs.Refusal.{mostInputs, mostSteps}
 use Rattle.call.proofs.Tests.{Passing, passing-of, passing-skips, refusal-stays, Refusing, gives-none, one-refuses, head-passes, tail-passes}
-use Rattle.sheet.proofs.FileVerdict.{file-refused}
+use Rattle.file.proofs.FileVerdict.{file-refused}
 use Rattle.call.proofs.Facts.{either-false}
 use Rattle.text.specs.FileText.{mostRows, textOfFile}
 use Rattle.text.specs.Text.{refusalLine}

@@ -4,7 +4,7 @@ use mathlib.Core.List.{List, _++_}
 use Prim.Native.Nat.{ℕ, _+_}
 use lib.ListN.{length, drop}
 use Rattle.sheet.specs.Refusal.{mostInputs, mostSteps}
-use Rattle.sheet.specs.File.{widthOf, verdictOfFile, rowsOfFile}
+use Rattle.file.specs.File.{widthOf, verdictOfFile, rowsOfFile}
 use Rattle.text.specs.Text.{textOf}
 
 -- room for the longest sheet

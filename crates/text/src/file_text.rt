@@ -3,8 +3,8 @@ ghost use Rattle.text.specs.FileText.{textOfFile, Leaves};
 use super::inner::lines::put_refusal;
 use super::inner::lines::put_rows;
 use call::number::DONE;
-use sheet::file::work_file;
-use sheet::inner::layout::N_AT;
+use file::file::work_file;
+use file::inner::layout::N_AT;
 
 // 32 inputs and 64 steps.
 const MOST_ROWS: usize = 96;

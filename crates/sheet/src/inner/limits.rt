@@ -1,9 +1,8 @@
-// The tests of lengths: 1, 2, 7 and 9, at place 0.
-ghost use mathlib.Core.Path.{_≡_};
+// The tests of the lengths of a sheet: 1, 7 and 9, at place 0.
 ghost use Rattle.call.specs.Verdict.{firstHit, Says};
-ghost use Rattle.sheet.specs.Column.{columnLimits};
 ghost use Rattle.sheet.specs.Sheet.{sheetLimits};
 use call::judged::Judged;
+use call::judged::at_start;
 use call::number::DONE;
 use call::number::NO_OPERATION;
 use call::number::NO_ROOM;
@@ -12,56 +11,11 @@ use call::number::WRONG_LENGTH;
 use call::operation::LAST_OPERATION;
 use posit::inner::format::is_format;
 
-pub const LONGEST_COLUMN: usize = 4096;
-
 pub const MOST_INPUTS: usize = 32;
 
 pub const MOST_STEPS: usize = 64;
 
 pub const STEP_BYTES: usize = 3;
-
-// A number at place 0.
-pub fn at_start(number: u32) -> Judged
-    ensures { λ r. ⌜ (r .number ≡ number) × (r .place ≡ 0) ⌝ }
-{
-    Judged {
-        number: number,
-        place: 0,
-    }
-}
-
-// Columns of these lengths, written from a row on.
-pub fn judge_columns(
-    n: u32,
-    es: u32,
-    op: u8,
-    left: usize,
-    right: usize,
-    row: usize,
-    lent: usize,
-) -> Judged
-    ensures { λ r. ⌜ Says (firstHit (columnLimits n es op left right row lent)) r ⌝ }
-{
-    if !is_format(n, es) {
-        return at_start(OUTSIDE_LIMITS);
-    }
-    if LAST_OPERATION < op {
-        return at_start(NO_OPERATION);
-    }
-    if left != right {
-        return at_start(WRONG_LENGTH);
-    }
-    if LONGEST_COLUMN < left {
-        return at_start(WRONG_LENGTH);
-    }
-    if lent < row {
-        return at_start(NO_ROOM);
-    }
-    if lent - row < left {
-        return at_start(NO_ROOM);
-    }
-    at_start(DONE)
-}
 
 // A sheet of so many inputs and bytes of steps.
 pub fn judge_sheet(n: u32, es: u32, inputs: usize, bytes: usize, lent: usize) -> Judged

@@ -6,7 +6,7 @@ use Prim.Native.Nat.{ℕ}
 use native.Mathlib.Omega.{arith}
 use lib.ListN.{length, getD, take}
 use borrow.Author.Needs.{needs}
-use Rattle.sheet.specs.File.{verdictOfFile, rowsOfFile}
+use Rattle.file.specs.File.{verdictOfFile, rowsOfFile}
 use Rattle.text.specs.FileText.{mostRows, Leaves}
 use Rattle.text.specs.Text.{refusalLine, rowLines}
 use Rattle.text.proofs.FileTexts.{leaves-front, refused-text, done-text, accepted, few-rows, was-done, rows-counted, rows-in-front}

@@ -7,7 +7,8 @@ use native.Mathlib.Omega.{arith}
 use borrow.Author.Needs.{needs}
 use borrow.Author.Tests.{lt-ltb, le-ltb, not-true, not-false}
 use Rattle.posit.specs.Refusal.{formatTest}
-use Rattle.sheet.specs.Refusal.{sizeTest, roomTest}
+use Rattle.sheet.specs.Refusal.{sizeTest}
+use Rattle.call.specs.Written.{roomTest}
 use Rattle.call.proofs.Tests.{Passing, all-pass, one-passes, passing-both, passing-done}
 use Rattle.call.proofs.Said.{says-hit, says-at}
 use Rattle.sheet.proofs.Limits.{inputs-hit, steps-hit, bytes-hit, size-passes}

@@ -5,7 +5,7 @@ use native.Mathlib.Omega.{arith}
 use lib.ListN.{length, take, length-replicate}
 use lib.Seq.{take-length}
 use borrow.Author.Needs.{needs}
-use Rattle.sheet.proofs.Copies.{Copied, copy-none, copy-one, copy-length, copy-front}
+use Rattle.call.proofs.Copies.{Copied, copy-none, copy-one, copy-length, copy-front}
 use Rattle.sheet.proofs.inner.steps.first_rows.Statement.{statement}
 use Rattle.sheet.proofs.inner.steps.first_rows.Tie as tie
 

@@ -11,10 +11,11 @@ use borrow.Author.Tests.{lt-ltb, le-ltb}
 use Rattle.exact.specs.Fraction.{whole}
 use Rattle.word.specs.Member.{Real, isMember}
 use Rattle.call.specs.Operation.{operationTestAt}
-use Rattle.sheet.specs.Refusal.{earlierTest, divisorTestAt}
+use Rattle.sheet.specs.Refusal.{earlierTest}
+use Rattle.column.specs.Refusal.{divisorTestAt}
 use Rattle.call.proofs.Tests.{Passing, all-pass, one-passes, passing-both}
 use Rattle.call.proofs.Said.{says-hit, says-done}
-use Rattle.sheet.proofs.Pairs.{divisor-hits, divisor-passes, not-a-division}
+use Rattle.column.proofs.Pairs.{divisor-hits, divisor-passes, not-a-division}
 use Rattle.sheet.proofs.Steps.{left-not-earlier, right-not-earlier, both-earlier}
 use Rattle.sheet.proofs.inner.steps.judge_step.Statement.{statement}
 use Rattle.sheet.proofs.inner.steps.judge_step.Tie as tie

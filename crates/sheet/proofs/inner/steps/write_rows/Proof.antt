@@ -4,7 +4,7 @@ use Prim.Native.Nat.{ℕ, _-_, _≤_}
 use native.Mathlib.Omega.{arith}
 use lib.ListN.{length}
 use borrow.Author.Needs.{needs}
-use Rattle.sheet.proofs.Copies.{Copied, copy-none, copy-one, copy-length, copy-all}
+use Rattle.call.proofs.Copies.{Copied, copy-none, copy-one, copy-length, copy-all}
 use Rattle.sheet.proofs.inner.steps.write_rows.Statement.{statement}
 use Rattle.sheet.proofs.inner.steps.write_rows.Tie as tie
 

@@ -1,0 +1,5 @@
+
+pub mod Refusal
+pub mod Column
+pub mod Accepted
+pub mod Plains

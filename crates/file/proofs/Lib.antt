@@ -1,0 +1,6 @@
+
+pub mod LowFirst
+pub mod Parts
+pub mod FileTests
+pub mod FileLayout
+pub mod FileVerdict

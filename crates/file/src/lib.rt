@@ -1,0 +1,3 @@
+// The sheet file: its layout, and the sheet in it worked into a lent column.
+pub mod file;
+pub mod inner;
