@@ -1,9 +1,9 @@
 // The structs that the exported calls on ranges give, and those calls' answers turned into them.
 ghost use mathlib.Core.Path.{_≡_};
 ghost use Rattle.cabi.specs.RangeShapes as Spec;
+use reading::reading::Outgoing;
 use word::answer::Reply;
 use word::answer::WordAnswer;
-use reading::reading::Outgoing;
 
 // A refusal's number and place, and a range word.
 #[repr(C)]

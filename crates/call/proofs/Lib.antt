@@ -1,4 +1,3 @@
-
 pub mod Facts
 pub mod FirstHit
 pub mod Answered

@@ -1,4 +1,3 @@
-
 pub mod Number
 pub mod Place
 pub mod Verdict

@@ -1,4 +1,3 @@
-
 pub mod Refusal
 pub mod Column
 pub mod Accepted

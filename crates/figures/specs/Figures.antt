@@ -3,6 +3,7 @@ use mathlib.Core.Bool.{Bool, true, false, _&&_}
 use mathlib.Core.List.{List, [], _∷_}
 use Prim.Native.Nat.{ℕ, _+_, _*_}
 use lib.Dec.{T, eqb}
+use Rattle.call.specs.Operation.{plus, times, over}
 use Rattle.posit.specs.Arithmetic.{answer}
 use Rattle.word.specs.Word.{wordOf}
 use Rattle.word.specs.Computed.{answerOf}
@@ -23,16 +24,6 @@ open-end p = 2 * p + 1
 
 abbrev pub word : ℕ → ℕ → ℕ
 word start end = wordOf width start end
-
--- operation numbers
-abbrev plus : ℕ
-plus = 0
-
-abbrev times : ℕ
-times = 2
-
-abbrev over : ℕ
-over = 3
 
 -- an operation number, two posits or two ranges, and the posit or range that is the answer
 pub data Case : Type 0 where

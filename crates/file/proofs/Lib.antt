@@ -1,4 +1,3 @@
-
 pub mod LowFirst
 pub mod Parts
 pub mod FileTests

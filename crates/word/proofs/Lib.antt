@@ -1,4 +1,3 @@
-
 pub mod WordTests
 pub mod Grid
 pub mod Places

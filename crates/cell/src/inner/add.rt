@@ -15,18 +15,18 @@ use super::cell::end_posit;
 use super::cell::start_posit;
 use super::cell::with_sign;
 use super::signed::signed_form;
-use word::inner::span::Span;
-use word::inner::span::joined;
-use word::inner::span::top_cell;
-use word::inner::span::word_of;
-use word::inner::turn::turned;
-use word::inner::word::cells_of;
 use code::inner::form::code_of;
 use code::inner::step::step_of;
 use code::inner::sum::SignedSum;
 use code::inner::sum::signed_sum;
 use code::inner::sum::total;
 use posit::inner::power::power32;
+use word::inner::span::Span;
+use word::inner::span::joined;
+use word::inner::span::top_cell;
+use word::inner::span::word_of;
+use word::inner::turn::turned;
+use word::inner::word::cells_of;
 
 // The cell of a finite posit alone.
 fn posit_cell(n: u32, p: u32) -> u32

@@ -8,11 +8,11 @@ ghost use Rattle.posit.specs.Magnitudes.{Words};
 ghost use Rattle.word.specs.Numbered.{patternAt};
 ghost use Rattle.word.specs.Spans.{topCell};
 ghost use Rattle.cell.specs.Cells.{CellEach, cellFrom, cellWithSign};
-use word::inner::span::top_cell;
 use posit::inner::choose::chosen;
 use posit::inner::locate::locate;
 use posit::inner::magnitude::Magnitude;
 use posit::inner::power::power32;
+use word::inner::span::top_cell;
 
 // The cell of a number above 0 from its floor among the patterns one bit longer: the number lies in the gap above an even pattern that it
 // is not itself, and every odd pattern lies in a gap.

@@ -4,12 +4,12 @@ ghost use Rattle.posit.specs.Format.{Format};
 ghost use Rattle.call.specs.Operation.{plus, minus};
 ghost use Rattle.posit.specs.Operation.{Operates};
 ghost use Rattle.posit.specs.Magnitudes.{SmallForm, AddsFinite};
+use super::super::decoded::Decoded;
 use super::magnitude::round_magnitude;
 use super::power::negated;
 use super::power::power32;
 use super::sum::Sum;
 use super::sum::exact_sum;
-use super::super::decoded::Decoded;
 use super::unpack::unpack;
 
 // The rounded sum of two finite numbers, g · 2^s and h · 2^t in size.

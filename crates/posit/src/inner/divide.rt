@@ -3,10 +3,10 @@ ghost use Prim.Native.Nat.{_^_, _<_};
 ghost use Rattle.posit.specs.Format.{Format};
 ghost use Rattle.call.specs.Operation.{over};
 ghost use Rattle.posit.specs.Operation.{Operates};
+use super::super::decoded::Decoded;
 use super::magnitude::round_magnitude;
 use super::power::power32;
 use super::quotient::quotient;
-use super::super::decoded::Decoded;
 use super::unpack::unpack;
 
 pub fn divide_posits(n: u32, es: u32, p: u32, q: u32) -> u32

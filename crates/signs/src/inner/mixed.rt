@@ -12,9 +12,9 @@ use super::one_sign::is_above;
 use super::one_sign::magnitudes;
 use super::positive::product_last;
 use super::positive::quotient_last;
+use posit::inner::power::power32;
 use word::inner::span::Span;
 use word::inner::span::top_cell;
-use posit::inner::power::power32;
 
 // Whether there are members above 0 and below it.
 pub fn is_mixed(n: u32, s: Span) -> bool

@@ -10,9 +10,9 @@ ghost use Rattle.signs.specs.OneSign.{isAbove, hasOneSign, OneSign, with
 use super::positive::products_above;
 use super::positive::quotients_above;
 use super::signs::turned_cells;
+use posit::inner::power::power32;
 use word::inner::span::Span;
 use word::inner::span::mirror;
-use posit::inner::power::power32;
 
 // Whether all members are above 0.
 pub fn is_above(n: u32, s: Span) -> bool

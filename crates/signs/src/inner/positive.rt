@@ -9,15 +9,15 @@ ghost use Rattle.word.specs.Spans.{topCell};
 ghost use Rattle.signs.specs.Signs.{startEdge, endEdge, CellAbove, firstCell, lastCell, PartAbove, positiveSome, positiveResults};
 ghost use Rattle.cell.specs.Cells.{resultCell};
 use cell::inner::cell::above_zero;
-use word::inner::span::Span;
-use word::inner::span::no_cells;
-use word::inner::span::top_cell;
 use code::inner::form::code_of;
 use code::inner::product::product;
 use code::inner::quotient::quotient;
 use code::inner::step::step_of;
 use posit::inner::choose::chosen;
 use posit::inner::power::power32;
+use word::inner::span::Span;
+use word::inner::span::no_cells;
+use word::inner::span::top_cell;
 
 // The posit at a start above 0, and the one at an end: they have no sign, so the number of a cell above that of 0 is enough.
 fn start_above(n: u32, cell: u32) -> u32

@@ -5,11 +5,11 @@ ghost use Rattle.posit.specs.Format.{Format};
 ghost use Rattle.word.specs.Spans.{topCell, Cells};
 ghost use Rattle.signs.specs.Signs.{partAbove, PartAbove, hullOf, turnedCells, eitherSign, signedResults, hasZero, hasOther, zeroIf};
 use super::positive::positive_results;
+use posit::inner::power::power32;
 use word::inner::span::Span;
 use word::inner::span::mirror;
 use word::inner::span::no_cells;
 use word::inner::span::top_cell;
-use posit::inner::power::power32;
 
 // The lesser and the greater of two numbers.
 fn least(a: u32, b: u32) -> u32

@@ -12,15 +12,15 @@ ghost use Rattle.word.specs.Spans.{startCell, startTileAt, turnedTile};
 ghost use Rattle.word.specs.Word.{tiles};
 use super::plain::OPEN_ZERO;
 use super::plain_results::end_tile_from;
+use code::inner::form::code_of;
+use code::inner::step::step_of;
+use code::inner::sum::difference;
+use posit::inner::power::power32;
 use signs::inner::positive::product_cell;
 use signs::inner::positive::quotient_cell;
 use word::inner::span::joined;
 use word::inner::word::end_tile;
 use word::inner::word::start_tile;
-use code::inner::form::code_of;
-use code::inner::step::step_of;
-use code::inner::sum::difference;
-use posit::inner::power::power32;
 
 // A tile with its posit negated, where that is not 0.
 fn negated_tile(n: u32, tile: u32) -> u32

@@ -10,14 +10,14 @@ ghost use Rattle.word.specs.Computed.{answerOf};
 ghost use Rattle.tiles.specs.Plain.{isPlain, PlainStart, PlainEnd};
 ghost use Rattle.signs.specs.Signs.{startEdge, endEdge, firstCell, lastCell};
 ghost use Rattle.word.specs.Spans.{topCell, startCell, endCell, startTileAt, endTileAt};
-use cell::inner::add::total_cell;
 use super::plain::OPEN_ZERO;
+use cell::inner::add::total_cell;
+use posit::inner::power::power32;
 use signs::inner::positive::product_cell;
 use signs::inner::positive::quotient_cell;
 use word::inner::span::joined;
 use word::inner::word::end_tile;
 use word::inner::word::start_tile;
-use posit::inner::power::power32;
 
 // The start tile of the results from the tiles s and t on, by the cell of their exact result: a posit where both are closed and the result is
 // one, else open.

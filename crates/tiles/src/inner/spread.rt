@@ -16,12 +16,12 @@ use super::plain_results::plain_product;
 use super::plain_results::plain_quotient;
 use super::plain_results::sum_end_tile;
 use super::plain_results::sum_start_tile;
-use word::inner::span::joined;
-use word::inner::word::end_tile;
-use word::inner::word::start_tile;
 use posit::inner::power::power;
 use std::num::wrapping_add_u64;
 use std::num::wrapping_sub_u64;
+use word::inner::span::joined;
+use word::inner::word::end_tile;
+use word::inner::word::start_tile;
 
 // Below 2^63 exactly where a word is a range above 0 or across it, with limits. The start is counted from 0 with a sign; the numbers joined say, in this order, that
 // the end lies behind 0, not before the start, that the start stands at neither tile of NaR, nor at a closed 0, and that the end lies before NaR.

@@ -10,8 +10,8 @@ use super::span::no_cells;
 use call::number::DONE;
 use call::number::HOLDS_INFINITY;
 use call::number::TOO_LARGE;
-use posit::inner::power::power32;
 use posit::inner::power::power;
+use posit::inner::power::power32;
 
 pub fn start_tile(n: u32, w: u64) -> u32
     requires { ⌜ (n ≤ 16) × (w < words n) ⌝ }

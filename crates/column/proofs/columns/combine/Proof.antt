@@ -1,4 +1,4 @@
--- `sheet::columns::combine` meets its contract: the limits are judged, then the pairs unless all their words are plain,
+-- `column::columns::combine` meets its contract: the limits are judged, then the pairs unless all their words are plain,
 -- which passes every test of a pair, and the part from the row on is written.
 use mathlib.Core.Path.{_≡_, sym, ap, _∙_}
 use mathlib.Core.Bool.{true}

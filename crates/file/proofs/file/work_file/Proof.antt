@@ -1,4 +1,4 @@
--- `sheet::file::work_file` meets its contract: the file's own tests come first, and what it holds is then worked as a sheet.
+-- `file::file::work_file` meets its contract: the file's own tests come first, and what it holds is then worked as a sheet.
 use mathlib.Core.Path.{sym, ap, _∙_}
 use Prim.Native.Nat.{_+_, _*_}
 use native.Mathlib.Omega.{arith}

@@ -1,4 +1,4 @@
--- `range::reading::give_out` meets its contract: the word is judged first, and a real one goes out.
+-- `reading::reading::give_out` meets its contract: the word is judged first, and a real one goes out.
 use borrow.Author.Needs.{needs}
 use mathlib.Core.Path.{sym, _∙_}
 use Rattle.call.proofs.Answered.{refused-as-said}

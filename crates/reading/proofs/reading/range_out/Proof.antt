@@ -1,4 +1,4 @@
--- `range::reading::range_out` meets its contract: a range without cells is empty, and any other goes out by its two tiles.
+-- `reading::reading::range_out` meets its contract: a range without cells is empty, and any other goes out by its two tiles.
 use borrow.Author.Needs.{needs}
 use Rattle.reading.proofs.GoingOut.{start-asks, end-asks, empty-out, ends-out}
 use Rattle.reading.proofs.reading.range_out.Statement.{statement}

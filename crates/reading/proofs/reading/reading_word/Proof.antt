@@ -1,4 +1,4 @@
--- `range::reading::reading_word` meets its contract: the cells of the two floats are those that the exact bounds of the reading reach.
+-- `reading::reading::reading_word` meets its contract: the cells of the two floats are those that the exact bounds of the reading reach.
 use borrow.Author.Needs.{needs}
 use Rattle.reading.proofs.Readings.{good, reading-cells, reading-answer}
 use Rattle.reading.proofs.reading.reading_word.Statement.{statement}

@@ -1,4 +1,4 @@
--- `range::reading::take_in` meets its contract: its two tests are those of the verdict, in their order, and what passes both is answered by its cells.
+-- `reading::reading::take_in` meets its contract: its two tests are those of the verdict, in their order, and what passes both is answered by its cells.
 use borrow.Author.Needs.{needs}
 use mathlib.Core.Path.{_≡_, refl, sym, _∙_}
 use mathlib.Core.Bool.{true}

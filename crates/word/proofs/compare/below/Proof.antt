@@ -1,4 +1,4 @@
--- `range::compare::below` meets its contract: both words are judged first, and then the cells decide.
+-- `word::compare::below` meets its contract: both words are judged first, and then the cells decide.
 use borrow.Author.Needs.{needs}
 use Rattle.word.specs.Member.{Below}
 use Rattle.word.proofs.Verdicts.{comparison-refused, comparison-asks, comparison-done}

@@ -1,4 +1,4 @@
--- `range::compare::meets` meets its contract: both words are judged first, and then the cells decide.
+-- `word::compare::meets` meets its contract: both words are judged first, and then the cells decide.
 use borrow.Author.Needs.{needs}
 use Rattle.word.specs.Member.{Meets}
 use Rattle.word.proofs.Verdicts.{comparison-refused, comparison-asks, comparison-done}

@@ -1,4 +1,4 @@
--- `range::negate::negate` meets its contract: the word is judged first, and a real one is turned.
+-- `word::negate::negate` meets its contract: the word is judged first, and a real one is turned.
 use mathlib.Core.Path.{refl, sym, _∙_}
 use borrow.Author.Needs.{needs}
 use Rattle.call.proofs.Answered.{answers-done, refused-as-said}

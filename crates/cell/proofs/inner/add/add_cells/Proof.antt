@@ -1,4 +1,4 @@
--- `range::inner::add::add_cells` meets its contract: the outermost cells of all sums, and no cell where an operand has none (`SumRange`).
+-- `cell::inner::add::add_cells` meets its contract: the outermost cells of all sums, and no cell where an operand has none (`SumRange`).
 use native.Mathlib.Omega.{arith}
 use Rattle.cell.proofs.SumRange.{one-fits, no-left, no-right, sums-there, sum-word}
 use Rattle.cell.proofs.inner.add.add_cells.Statement.{statement}

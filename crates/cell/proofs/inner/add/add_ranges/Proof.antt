@@ -1,4 +1,4 @@
--- `range::inner::add::add_ranges` meets its contract: the answer is the sum of the cells of both ranges (`SumRange`).
+-- `cell::inner::add::add_ranges` meets its contract: the answer is the sum of the cells of both ranges (`SumRange`).
 use borrow.Author.Needs.{needs}
 use Rattle.cell.proofs.SumRange.{sum-found}
 use Rattle.word.proofs.RealWords.{cells-at-hand}

@@ -1,4 +1,4 @@
--- `range::inner::add::posit_cell` meets its contract: it computes the posit's number itself.
+-- `cell::inner::add::posit_cell` meets its contract: it computes the posit's number itself.
 use Prim.Native.Nat.{_+_, _-_}
 use native.Mathlib.Omega.{arith}
 use lib.Pow.{pow-pos}

@@ -1,4 +1,4 @@
--- `range::inner::add::subtract_ranges` meets its contract: the answer is the difference of the left range's cells and the right word (`Difference`).
+-- `cell::inner::add::subtract_ranges` meets its contract: the answer is the difference of the left range's cells and the right word (`Difference`).
 use borrow.Author.Needs.{needs}
 use Rattle.word.proofs.RealWords.{cells-at-hand}
 use Rattle.cell.proofs.Difference.{difference-found}

@@ -1,4 +1,4 @@
--- `range::inner::add::subtract_word` meets its contract: the negated range has the cells of the negatives (`Difference`).
+-- `cell::inner::add::subtract_word` meets its contract: the negated range has the cells of the negatives (`Difference`).
 use mathlib.Core.Path.{ap, _∙_}
 use borrow.Author.Needs.{needs}
 use Rattle.word.proofs.RealWords.{cells-at-hand}

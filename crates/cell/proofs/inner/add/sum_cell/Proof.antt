@@ -1,4 +1,4 @@
--- `range::inner::add::sum_cell` meets its contract: beside 0 the cell is that of the other posit, and else that of the exact sum (`SumCells`).
+-- `cell::inner::add::sum_cell` meets its contract: beside 0 the cell is that of the other posit, and else that of the exact sum (`SumCells`).
 use mathlib.Core.Path.{_∙_}
 use native.Mathlib.Omega.{arith}
 use Rattle.cell.proofs.SumCells.{zero-left, zero-right, nothing-cell, something-known, something-fits, something-small, something-cell, signed-sum}

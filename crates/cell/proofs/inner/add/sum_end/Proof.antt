@@ -1,4 +1,4 @@
--- `range::inner::add::sum_end` meets its contract: its tests are whether the bounds at the two cells are there and closed (`SumCells`).
+-- `cell::inner::add::sum_end` meets its contract: its tests are whether the bounds at the two cells are there and closed (`SumCells`).
 use native.Mathlib.Omega.{arith}
 use Rattle.cell.proofs.SumCells.{end-left, end-right, end-finite, end-found, marks-small, moved-small}
 use borrow.Author.Needs.{needs}

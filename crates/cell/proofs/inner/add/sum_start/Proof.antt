@@ -1,4 +1,4 @@
--- `range::inner::add::sum_start` meets its contract: its tests are whether the bounds at the two cells are there and closed (`SumCells`).
+-- `cell::inner::add::sum_start` meets its contract: its tests are whether the bounds at the two cells are there and closed (`SumCells`).
 use native.Mathlib.Omega.{arith}
 use Rattle.cell.proofs.SumCells.{start-left, start-right, start-finite, start-found, marks-small, moved-small, cell-small}
 use borrow.Author.Needs.{needs}

@@ -1,4 +1,4 @@
--- `range::inner::add::total_cell` meets its contract: the codes say what the posits are, so their exact sum has its step.
+-- `cell::inner::add::total_cell` meets its contract: the codes say what the posits are, so their exact sum has its step.
 use Rattle.cell.proofs.ResultCell.{known-fits, known-cell, same-total}
 use borrow.Author.Needs.{needs}
 use Rattle.cell.proofs.inner.add.total_cell.Statement.{statement}

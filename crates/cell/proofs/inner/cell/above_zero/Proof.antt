@@ -1,4 +1,4 @@
--- `range::inner::cell::above_zero` meets its contract: the numbers are small.
+-- `cell::inner::cell::above_zero` meets its contract: the numbers are small.
 use native.Mathlib.Omega.{arith}
 use Rattle.word.proofs.Tiles.{half-small}
 use borrow.Author.Needs.{needs}

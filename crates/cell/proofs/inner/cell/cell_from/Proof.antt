@@ -1,4 +1,4 @@
--- `range::inner::cell::cell_from` meets its contract: the gap is counted by the product of two marks, not odd and not met.
+-- `cell::inner::cell::cell_from` meets its contract: the gap is counted by the product of two marks, not odd and not met.
 use native.Mathlib.Omega.{arith}
 use borrow.Author.Needs.{needs}
 use lib.Pow.{pow-pos}

@@ -1,4 +1,4 @@
--- `range::inner::cell::cell_of` meets its contract: the floor of the word's lower end is that of everything the word knows (`CellFrom`).
+-- `cell::inner::cell::cell_of` meets its contract: the floor of the word's lower end is that of everything the word knows (`CellFrom`).
 use native.Mathlib.Omega.{arith}
 use borrow.Author.Needs.{needs}
 use Rattle.posit.proofs.RoundKnown.{pattern-fits}

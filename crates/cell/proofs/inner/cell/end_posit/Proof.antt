@@ -1,4 +1,4 @@
--- `range::inner::cell::end_posit` meets its contract: it computes `patternAt` itself.
+-- `cell::inner::cell::end_posit` meets its contract: it computes `patternAt` itself.
 use Prim.Native.Nat.{_/_}
 use native.Mathlib.Omega.{arith}
 use borrow.Author.Needs.{needs}

@@ -1,4 +1,4 @@
--- `range::inner::cell::with_sign` meets its contract: the cells of the negatives are counted from the other end.
+-- `cell::inner::cell::with_sign` meets its contract: the cells of the negatives are counted from the other end.
 use borrow.Author.Needs.{needs}
 use Rattle.cell.proofs.CellFrom.{mark-fits, gives-sign}
 use Rattle.cell.proofs.inner.cell.with_sign.Statement.{statement}

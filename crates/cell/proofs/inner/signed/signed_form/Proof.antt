@@ -1,4 +1,4 @@
--- `range::inner::signed::signed_form` meets its contract: a posit above NaR's pattern is the negative of the negated one (`SumCells`).
+-- `cell::inner::signed::signed_form` meets its contract: a posit above NaR's pattern is the negative of the negated one (`SumCells`).
 use lib.Dec.{leb}
 use Rattle.cell.proofs.CellFrom.{mark-fits}
 use Rattle.cell.proofs.SumCells.{size-fits, signed-of}

@@ -1,4 +1,4 @@
--- `sheet::inner::pairs::judge_pair` meets its contract: it judges the left word, the right word and the divisor in the order of the tests.
+-- `column::inner::pairs::judge_pair` meets its contract: it judges the left word, the right word and the divisor in the order of the tests.
 use mathlib.Core.Path.{refl}
 use mathlib.Core.List.{[]}
 use borrow.Author.Needs.{needs}

@@ -1,4 +1,4 @@
--- `sheet::inner::pairs::judge_pairs` meets its contract: while no pair is refused, the verdict of all pairs is that of the pairs left.
+-- `column::inner::pairs::judge_pairs` meets its contract: while no pair is refused, the verdict of all pairs is that of the pairs left.
 use mathlib.Core.Path.{_≡_, refl, ap, _∙_}
 use mathlib.Core.List.{_++_}
 use Prim.Native.Nat.{_+_, _-_, _≤_}

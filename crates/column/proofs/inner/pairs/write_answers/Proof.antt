@@ -1,4 +1,4 @@
--- `sheet::inner::pairs::write_answers` meets its contract: after i turns the first i answers stand at the front, and the rest is as it was.
+-- `column::inner::pairs::write_answers` meets its contract: after i turns the first i answers stand at the front, and the rest is as it was.
 use mathlib.Core.Path.{_≡_, refl, sym, _∙_}
 use Prim.Native.Nat.{_-_, _≤_}
 use native.Mathlib.Omega.{arith}

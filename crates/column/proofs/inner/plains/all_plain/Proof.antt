@@ -1,4 +1,4 @@
--- `sheet::inner::plains::all_plain` meets its contract: all pairs are such where the faults joined so far are below 2^63 and the pairs left are such.
+-- `column::inner::plains::all_plain` meets its contract: all pairs are such where the faults joined so far are below 2^63 and the pairs left are such.
 use mathlib.Core.Path.{_≡_, refl, sym, _∙_}
 use mathlib.Core.Bool.{_&&_}
 use Prim.Native.Nat.{_-_, _^_, _≤_}

@@ -1,4 +1,4 @@
--- `sheet::inner::plains::plain_answer` meets its contract: the number 2 is the product, 0 the sum, and of those up to 3 without 1 only 3 is left.
+-- `column::inner::plains::plain_answer` meets its contract: the number 2 is the product, 0 the sum, and of those up to 3 without 1 only 3 is left.
 use mathlib.Core.Path.{_≡_}
 use native.Mathlib.Omega.{arith}
 use borrow.Author.Needs.{needs}

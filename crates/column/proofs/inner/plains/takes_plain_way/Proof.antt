@@ -1,4 +1,4 @@
--- `sheet::inner::plains::takes_plain_way` meets its contract: its two tests are those of the definition.
+-- `column::inner::plains::takes_plain_way` meets its contract: its two tests are those of the definition.
 use borrow.Author.Needs.{needs}
 use borrow.Author.Tests.{eq-eqb, ne-eqb}
 use Rattle.column.specs.Plains.{subtract}

@@ -1,4 +1,4 @@
--- `sheet::inner::plains::write_plain` meets its contract: after i turns the first i answers stand at the front, and the rest is as it was.
+-- `column::inner::plains::write_plain` meets its contract: after i turns the first i answers stand at the front, and the rest is as it was.
 use mathlib.Core.Path.{_≡_, refl, sym, _∙_}
 use mathlib.Core.Bool.{true}
 use Prim.Native.Nat.{_-_, _≤_}

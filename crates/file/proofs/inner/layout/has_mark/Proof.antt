@@ -1,4 +1,4 @@
--- `sheet::inner::layout::has_mark` meets its contract: the three bytes are tested one by one.
+-- `file::inner::layout::has_mark` meets its contract: the three bytes are tested one by one.
 use borrow.Author.Needs.{needs}
 use borrow.Author.Tests.{eq-eqb, ne-eqb}
 use lib.ListN.{getD}

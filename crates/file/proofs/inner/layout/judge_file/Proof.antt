@@ -1,4 +1,4 @@
--- `sheet::inner::layout::judge_file` meets its contract: its tests are those of the file, in their order.
+-- `file::inner::layout::judge_file` meets its contract: its tests are those of the file, in their order.
 use mathlib.Core.Path.{sym, ap, _∙_}
 use mathlib.Core.Bool.{not}
 use native.Mathlib.Omega.{arith}

@@ -1,4 +1,4 @@
--- `sheet::inner::layout::read_word` meets its contract: the bytes passed so far, from the high one down, give the number so far.
+-- `file::inner::layout::read_word` meets its contract: the bytes passed so far, from the high one down, give the number so far.
 use mathlib.Core.Path.{_≡_, ap, _∙_}
 use Prim.Native.Nat.{ℕ, _+_, _*_, _-_, _^_, _≤_, _<_}
 use native.Mathlib.Omega.{arith}

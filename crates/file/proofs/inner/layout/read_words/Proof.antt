@@ -1,4 +1,4 @@
--- `sheet::inner::layout::read_words` meets its contract: after i turns the first i words are the first i of the bytes.
+-- `file::inner::layout::read_words` meets its contract: after i turns the first i words are the first i of the bytes.
 use mathlib.Core.Path.{_≡_, sym, ap, _∙_}
 use Prim.Native.Nat.{ℕ, _-_, _≤_}
 use native.Mathlib.Omega.{arith}

@@ -1,4 +1,4 @@
--- `range::inner::float_end::bad_reading` meets its contract: its tests are those of a bad reading, in their order.
+-- `reading::inner::float_end::bad_reading` meets its contract: its tests are those of a bad reading, in their order.
 use mathlib.Core.Path.{_≡_, refl, sym, _∙_, subst}
 use mathlib.Core.Bool.{true, false}
 use lib.Dec.{T}

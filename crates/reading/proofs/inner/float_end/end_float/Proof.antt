@@ -1,4 +1,4 @@
--- `range::inner::float_end::end_float` meets its contract: zero is +0.0, NaR stands for unbounded, and any other posit is the float of its decoded form.
+-- `reading::inner::float_end::end_float` meets its contract: zero is +0.0, NaR stands for unbounded, and any other posit is the float of its decoded form.
 use borrow.Author.Needs.{needs}
 use native.Mathlib.Omega.{arith}
 use Rattle.posit.proofs.Mirror.{power-wider}

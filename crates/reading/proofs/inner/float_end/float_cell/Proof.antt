@@ -1,4 +1,4 @@
--- `range::inner::float_end::float_cell` meets its contract: an infinity has the given cell, 0 the middle one, and what is left is known exactly by its digits.
+-- `reading::inner::float_end::float_cell` meets its contract: an infinity has the given cell, 0 the middle one, and what is left is known exactly by its digits.
 use borrow.Author.Needs.{needs}
 use mathlib.Core.Path.{refl, sym, subst}
 use native.Mathlib.Omega.{arith}

@@ -1,4 +1,4 @@
--- `range::inner::float_end::infinity` meets its contract: its two patterns are read as the infinities.
+-- `reading::inner::float_end::infinity` meets its contract: its two patterns are read as the infinities.
 use mathlib.Core.Path.{sym, ap, _∙_}
 use mathlib.Core.Bool.{true, false}
 use lib.Ieee.{inf, nanBits}

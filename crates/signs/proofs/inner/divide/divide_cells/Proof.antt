@@ -1,4 +1,4 @@
--- `range::inner::divide::divide_cells` meets its contract: an empty operand has no quotients, and those of others are found as cells.
+-- `signs::inner::divide::divide_cells` meets its contract: an empty operand has no quotients, and those of others are found as cells.
 use mathlib.Core.Path.{ap, _∙_}
 use native.Mathlib.Omega.{arith}
 use borrow.Author.Needs.{needs}

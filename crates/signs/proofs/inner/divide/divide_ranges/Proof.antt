@@ -1,4 +1,4 @@
--- `range::inner::divide::divide_ranges` meets its contract: the cells of the quotients are those that the exact quotients reach.
+-- `signs::inner::divide::divide_ranges` meets its contract: the cells of the quotients are those that the exact quotients reach.
 use borrow.Author.Needs.{needs}
 use Rattle.signs.proofs.ByStages.{quotient-found}
 use Rattle.word.proofs.RealWords.{real-cells}

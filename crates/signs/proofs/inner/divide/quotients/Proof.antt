@@ -1,4 +1,4 @@
--- `range::inner::divide::quotients` meets its contract: it puts the results of all signs and 0 together.
+-- `signs::inner::divide::quotients` meets its contract: it puts the results of all signs and 0 together.
 use borrow.Author.Needs.{needs}
 use Rattle.signs.proofs.ByStages.{quotient-by-stages}
 use Rattle.signs.proofs.inner.divide.quotients.Statement.{statement}

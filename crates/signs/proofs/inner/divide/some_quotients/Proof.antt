@@ -1,4 +1,4 @@
--- `range::inner::divide::some_quotients` meets its contract: each way of finding the quotients finds all.
+-- `signs::inner::divide::some_quotients` meets its contract: each way of finding the quotients finds all.
 use borrow.Author.Needs.{needs}
 use Rattle.signs.proofs.OneSigned.{left-one-sign, right-one-sign}
 use Rattle.signs.proofs.Mixed.{mixed-left, one-sign-right}

@@ -1,4 +1,4 @@
--- `range::inner::mixed::around` meets its contract: its test is that of the definition, and no cell lies above the top one.
+-- `signs::inner::mixed::around` meets its contract: its test is that of the definition, and no cell lies above the top one.
 use borrow.Author.Needs.{needs}
 use Rattle.signs.proofs.Mixed.{around-by-above, around-by-below}
 use Rattle.signs.proofs.inner.mixed.around.Statement.{statement}

@@ -1,4 +1,4 @@
--- `range::inner::mixed::is_mixed` meets its contract: its tests are those of the definition.
+-- `signs::inner::mixed::is_mixed` meets its contract: its tests are those of the definition.
 use native.Mathlib.Omega.{arith}
 use lib.Pow.{pow-pos}
 use borrow.Author.Needs.{needs}

@@ -1,4 +1,4 @@
--- `range::inner::mixed::is_mixed_by` meets its contract: its tests are those of the definition.
+-- `signs::inner::mixed::is_mixed_by` meets its contract: its tests are those of the definition.
 use borrow.Author.Needs.{needs}
 use Rattle.signs.specs.OneSign.{hasOneSign}
 use Rattle.signs.proofs.OneSigned.{both-hold, first-fails}

@@ -1,4 +1,4 @@
--- `range::inner::mixed::mixed_quotients` meets its contract: the results start next to 0 on both sides, and end at those of the outermost members.
+-- `signs::inner::mixed::mixed_quotients` meets its contract: the results start next to 0 on both sides, and end at those of the outermost members.
 use mathlib.Core.Path.{refl, ap, ap₂, _∙_}
 use mathlib.Core.Bool.{true}
 use Prim.Native.Nat.{_-_}

@@ -1,4 +1,4 @@
--- `range::inner::multiply::multiply_ranges` meets its contract: the cells of the products are those that the exact products reach.
+-- `signs::inner::multiply::multiply_ranges` meets its contract: the cells of the products are those that the exact products reach.
 use borrow.Author.Needs.{needs}
 use Rattle.signs.proofs.ByStages.{product-found}
 use Rattle.word.proofs.RealWords.{real-cells}

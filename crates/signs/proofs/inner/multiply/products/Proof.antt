@@ -1,4 +1,4 @@
--- `range::inner::multiply::products` meets its contract: it puts the results of all signs and 0 together.
+-- `signs::inner::multiply::products` meets its contract: it puts the results of all signs and 0 together.
 use borrow.Author.Needs.{needs}
 use Rattle.signs.proofs.ByStages.{product-by-stages}
 use Rattle.signs.proofs.inner.multiply.products.Statement.{statement}

@@ -1,4 +1,4 @@
--- `range::inner::multiply::some_products` meets its contract: each way of finding the products finds all.
+-- `signs::inner::multiply::some_products` meets its contract: each way of finding the products finds all.
 use mathlib.Core.Path.{_∙_}
 use borrow.Author.Needs.{needs}
 use Rattle.signs.proofs.OneSigned.{left-one-sign, right-one-sign}

@@ -1,4 +1,4 @@
--- `range::inner::one_sign::has_one_sign` meets its contract: its tests are those of the definition.
+-- `signs::inner::one_sign::has_one_sign` meets its contract: its tests are those of the definition.
 use borrow.Author.Needs.{needs}
 use Rattle.signs.proofs.ReachedCells.{sign-above, sign-below}
 use Rattle.signs.proofs.inner.one_sign.has_one_sign.Statement.{statement}

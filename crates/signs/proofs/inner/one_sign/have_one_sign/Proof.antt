@@ -1,4 +1,4 @@
--- `range::inner::one_sign::have_one_sign` meets its contract: its tests are those of the definition.
+-- `signs::inner::one_sign::have_one_sign` meets its contract: its tests are those of the definition.
 use borrow.Author.Needs.{needs}
 use Rattle.signs.specs.OneSign.{hasOneSign}
 use Rattle.signs.proofs.OneSigned.{both-hold, first-fails}

@@ -1,4 +1,4 @@
--- `range::inner::one_sign::is_above` meets its contract: its test is that of the definition.
+-- `signs::inner::one_sign::is_above` meets its contract: its test is that of the definition.
 use borrow.Author.Needs.{needs}
 use Rattle.signs.proofs.inner.one_sign.is_above.Statement.{statement}
 use Rattle.signs.proofs.inner.one_sign.is_above.Tie as tie

@@ -1,4 +1,4 @@
--- `range::inner::one_sign::magnitudes` meets its contract: members that are not above 0 are below it.
+-- `signs::inner::one_sign::magnitudes` meets its contract: members that are not above 0 are below it.
 use mathlib.Core.Path.{sym, _∙_}
 use borrow.Author.Needs.{needs}
 use Rattle.signs.proofs.OneSigned.{above-magnitudes, below-magnitudes}

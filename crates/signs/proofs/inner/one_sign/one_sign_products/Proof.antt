@@ -1,4 +1,4 @@
--- `range::inner::one_sign::one_sign_products` meets its contract: the products of the magnitudes, with the sign of both, are all products.
+-- `signs::inner::one_sign::one_sign_products` meets its contract: the products of the magnitudes, with the sign of both, are all products.
 use mathlib.Core.Path.{ap, ap₂, _∙_}
 use mathlib.Core.Bool.{false}
 use borrow.Author.Needs.{needs}

@@ -1,4 +1,4 @@
--- `range::inner::one_sign::one_sign_quotients` meets its contract: the quotients of the magnitudes, with the sign of both, are all quotients.
+-- `signs::inner::one_sign::one_sign_quotients` meets its contract: the quotients of the magnitudes, with the sign of both, are all quotients.
 use mathlib.Core.Path.{ap, ap₂, _∙_}
 use mathlib.Core.Bool.{true}
 use borrow.Author.Needs.{needs}

@@ -1,4 +1,4 @@
--- `range::inner::one_sign::with_signs` meets its contract: its test is that of the definition.
+-- `signs::inner::one_sign::with_signs` meets its contract: its test is that of the definition.
 use borrow.Author.Needs.{needs}
 use Rattle.signs.proofs.OneSigned.{signs-agree, signs-differ}
 use Rattle.signs.proofs.inner.one_sign.with_signs.Statement.{statement}

@@ -1,4 +1,4 @@
--- `range::inner::positive::end_above` meets its contract: the number of a posit above 0 is half its cell's distance from the cells up to 0.
+-- `signs::inner::positive::end_above` meets its contract: the number of a posit above 0 is half its cell's distance from the cells up to 0.
 use native.Mathlib.Omega.{arith}
 use borrow.Author.Needs.{needs}
 use Rattle.posit.proofs.Mirror.{power-wider}

@@ -1,4 +1,4 @@
--- `range::inner::positive::last_from` meets its contract: the mark is 1 where both cells are odd.
+-- `signs::inner::positive::last_from` meets its contract: the mark is 1 where both cells are odd.
 use native.Mathlib.Omega.{arith}
 use borrow.Author.Needs.{needs}
 use Rattle.signs.proofs.ReachedCells.{marks-small}

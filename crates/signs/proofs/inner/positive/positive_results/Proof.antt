@@ -1,4 +1,4 @@
--- `range::inner::positive::positive_results` meets its contract: its tests are those of the definition.
+-- `signs::inner::positive::positive_results` meets its contract: its tests are those of the definition.
 use native.Mathlib.Omega.{arith}
 use borrow.Author.Needs.{needs}
 use Rattle.signs.proofs.ReachedCells.{no-left-part, no-right-part, both-parts}

@@ -1,4 +1,4 @@
--- `range::inner::positive::positive_some` meets its contract: the test chooses the quotients or the products.
+-- `signs::inner::positive::positive_some` meets its contract: the test chooses the quotients or the products.
 use borrow.Author.Needs.{needs}
 use Rattle.signs.proofs.ReachedCells.{quotient-part, product-part}
 use Rattle.signs.proofs.inner.positive.positive_some.Statement.{statement}

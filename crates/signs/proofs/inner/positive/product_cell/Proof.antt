@@ -1,4 +1,4 @@
--- `range::inner::positive::product_cell` meets its contract: the codes say what the posits are, so their exact product has its step.
+-- `signs::inner::positive::product_cell` meets its contract: the codes say what the posits are, so their exact product has its step.
 use Rattle.cell.proofs.ResultCell.{known-fits, known-cell, same-product}
 use borrow.Author.Needs.{needs}
 use Rattle.signs.proofs.inner.positive.product_cell.Statement.{statement}

@@ -1,4 +1,4 @@
--- `range::inner::positive::product_first` meets its contract: in the gap above 0 where an end is no limit, else the cell of the result, or its gap unless both are closed.
+-- `signs::inner::positive::product_first` meets its contract: in the gap above 0 where an end is no limit, else the cell of the result, or its gap unless both are closed.
 use mathlib.Core.Path.{refl, ap₂, _∙_}
 use mathlib.Core.Bool.{false}
 use borrow.Author.Needs.{needs}

@@ -1,4 +1,4 @@
--- `range::inner::positive::products_above` meets its contract: it takes the ends that belong together.
+-- `signs::inner::positive::products_above` meets its contract: it takes the ends that belong together.
 use borrow.Author.Needs.{needs}
 use Rattle.signs.proofs.ReachedCells.{last-above}
 use Rattle.signs.proofs.inner.positive.products_above.Statement.{statement}

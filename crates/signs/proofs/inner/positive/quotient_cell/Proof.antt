@@ -1,4 +1,4 @@
--- `range::inner::positive::quotient_cell` meets its contract: the codes say what the posits are, so their exact quotient has its step.
+-- `signs::inner::positive::quotient_cell` meets its contract: the codes say what the posits are, so their exact quotient has its step.
 use Rattle.cell.proofs.ResultCell.{known-fits, known-cell, same-quotient}
 use borrow.Author.Needs.{needs}
 use Rattle.signs.proofs.inner.positive.quotient_cell.Statement.{statement}

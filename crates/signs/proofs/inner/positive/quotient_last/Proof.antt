@@ -1,4 +1,4 @@
--- `range::inner::positive::quotient_last` meets its contract: at the topmost gap where an end is no limit, else the cell of the result, or its gap unless both are closed.
+-- `signs::inner::positive::quotient_last` meets its contract: at the topmost gap where an end is no limit, else the cell of the result, or its gap unless both are closed.
 use mathlib.Core.Path.{refl, ap₂, _∙_}
 use mathlib.Core.Bool.{true}
 use borrow.Author.Needs.{needs}

@@ -1,4 +1,4 @@
--- `range::inner::positive::quotients_above` meets its contract: it takes the ends that belong together.
+-- `signs::inner::positive::quotients_above` meets its contract: it takes the ends that belong together.
 use Rattle.signs.proofs.ReachedCells.{first-above, last-above}
 use Rattle.signs.proofs.inner.positive.quotients_above.Statement.{statement}
 use Rattle.signs.proofs.inner.positive.quotients_above.Tie as tie

@@ -1,4 +1,4 @@
--- `range::inner::signs::either_sign` meets its contract: it puts the results of both signs together.
+-- `signs::inner::signs::either_sign` meets its contract: it puts the results of both signs together.
 use borrow.Author.Needs.{needs}
 use Rattle.signs.proofs.ReachedCells.{positive-cells}
 use Rattle.signs.proofs.inner.signs.either_sign.Statement.{statement}

@@ -1,4 +1,4 @@
--- `range::inner::signs::has_other` meets its contract: its tests are those of the definition.
+-- `signs::inner::signs::has_other` meets its contract: its tests are those of the definition.
 use borrow.Author.Needs.{needs}
 use Rattle.signs.proofs.ReachedCells.{other-above, other-below}
 use Rattle.signs.proofs.inner.signs.has_other.Statement.{statement}

@@ -1,4 +1,4 @@
--- `range::inner::signs::hull` meets its contract: it is the least first and the greatest last cell.
+-- `signs::inner::signs::hull` meets its contract: it is the least first and the greatest last cell.
 use borrow.Author.Needs.{needs}
 use Rattle.signs.proofs.inner.signs.hull.Statement.{statement}
 use Rattle.signs.proofs.inner.signs.hull.Tie as tie

@@ -1,4 +1,4 @@
--- `range::inner::signs::part_above` meets its contract: its test is that of the definition.
+-- `signs::inner::signs::part_above` meets its contract: its test is that of the definition.
 use borrow.Author.Needs.{needs}
 use Rattle.signs.proofs.ReachedCells.{no-part-above, some-part-above}
 use Rattle.signs.proofs.inner.signs.part_above.Statement.{statement}

@@ -1,4 +1,4 @@
--- `range::inner::signs::signed_results` meets its contract: it splits both operands at 0 and puts the results of all signs together.
+-- `signs::inner::signs::signed_results` meets its contract: it splits both operands at 0 and puts the results of all signs together.
 use borrow.Author.Needs.{needs}
 use Rattle.signs.proofs.ByStages.{signed-by-stages}
 use Rattle.signs.proofs.ReachedCells.{part-there, mirrored-part-there, either-cells}

@@ -1,4 +1,4 @@
--- `range::inner::signs::turned_cells` meets its contract: its test is that of the definition, and no cell lies above the top one.
+-- `signs::inner::signs::turned_cells` meets its contract: its test is that of the definition, and no cell lies above the top one.
 use borrow.Author.Needs.{needs}
 use Rattle.signs.proofs.ReachedCells.{none-turned, some-turned}
 use Rattle.signs.proofs.inner.signs.turned_cells.Statement.{statement}

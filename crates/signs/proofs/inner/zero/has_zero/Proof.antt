@@ -1,4 +1,4 @@
--- `range::inner::zero::has_zero` meets its contract: 0 is a member where its cell is one of the range's cells (`HasZero`).
+-- `signs::inner::zero::has_zero` meets its contract: 0 is a member where its cell is one of the range's cells (`HasZero`).
 use mathlib.Core.Path.{_∙_}
 use borrow.Author.Needs.{needs}
 use Rattle.signs.proofs.HasZero.{zero-member}

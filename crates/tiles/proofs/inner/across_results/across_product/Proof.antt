@@ -1,4 +1,4 @@
--- `range::inner::across_results::across_product` meets its contract: the products reach from the negative of that of the sizes to that of the ends (`AcrossResults`).
+-- `tiles::inner::across_results::across_product` meets its contract: the products reach from the negative of that of the sizes to that of the ends (`AcrossResults`).
 use mathlib.Core.Path.{refl}
 use mathlib.Core.Bool.{false}
 use Prim.Native.Nat.{_^_, _≤_}

@@ -1,4 +1,4 @@
--- `range::inner::across_results::across_quotient` meets its contract: the quotients reach from the negative of that of the sizes to that of the end, and over a start
+-- `tiles::inner::across_results::across_quotient` meets its contract: the quotients reach from the negative of that of the sizes to that of the end, and over a start
 -- next to 0 they have no limit (`AcrossResults`).
 use mathlib.Core.Path.{refl}
 use mathlib.Core.Bool.{true}

@@ -1,4 +1,4 @@
--- `range::inner::across_results::across_start` meets its contract: beyond an open 0 the sums start at the posit below 0, open, else at the exact sum of the two, which is
+-- `tiles::inner::across_results::across_start` meets its contract: beyond an open 0 the sums start at the posit below 0, open, else at the exact sum of the two, which is
 -- nothing where one takes the other away (`SumTiles`).
 use mathlib.Core.Path.{_≡_, refl, sym, _∙_, ap}
 use mathlib.Core.Bool.{Bool, true, false}

@@ -1,4 +1,4 @@
--- `range::inner::across_results::negated_tile` meets its contract: where the posit is not 0 the turn at NaR's side is a subtraction (`AcrossCells`).
+-- `tiles::inner::across_results::negated_tile` meets its contract: where the posit is not 0 the turn at NaR's side is a subtraction (`AcrossCells`).
 use native.Mathlib.Omega.{arith}
 use borrow.Author.Needs.{needs}
 use Rattle.posit.proofs.Mirror.{power-wider}

@@ -1,4 +1,4 @@
--- `range::inner::across_results::signed_tile` meets its contract: there are twice 2^n tiles.
+-- `tiles::inner::across_results::signed_tile` meets its contract: there are twice 2^n tiles.
 use native.Mathlib.Omega.{arith}
 use borrow.Author.Needs.{needs}
 use Rattle.posit.proofs.Mirror.{power-wider}

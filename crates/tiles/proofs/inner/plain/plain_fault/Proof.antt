@@ -1,4 +1,4 @@
--- `range::inner::plain::plain_fault` meets its contract: each number joined passes 2^63 where its test fails (`Faults`).
+-- `tiles::inner::plain::plain_fault` meets its contract: each number joined passes 2^63 where its test fails (`Faults`).
 use lib.Pow.{pow-pos}
 use borrow.Author.Needs.{needs}
 use Rattle.tiles.proofs.Faults.{mark-fits, plain-judged}

@@ -1,4 +1,4 @@
--- `range::inner::plain_results::plain_product` meets its contract: the products reach from that of the starts to that of the ends (`PlainResults`).
+-- `tiles::inner::plain_results::plain_product` meets its contract: the products reach from that of the starts to that of the ends (`PlainResults`).
 use Rattle.tiles.proofs.PlainCells.{plain-start, plain-end, real-of-plain}
 use Rattle.tiles.proofs.PlainResults.{PlainEnds, wide, left-tiles, right-tiles, start-tile-fits, end-tile-fits, product-found}
 use Rattle.tiles.proofs.inner.plain_results.plain_product.Statement.{statement}

@@ -1,4 +1,4 @@
--- `range::inner::plain_results::plain_quotient` meets its contract: the quotients reach from the start over the end to the end over the start (`PlainResults`).
+-- `tiles::inner::plain_results::plain_quotient` meets its contract: the quotients reach from the start over the end to the end over the start (`PlainResults`).
 use Rattle.tiles.proofs.PlainCells.{plain-start, plain-end, real-of-plain}
 use Rattle.tiles.proofs.PlainResults.{PlainEnds, wide, left-tiles, right-tiles, start-tile-fits, end-tile-fits, quotient-found}
 use Rattle.tiles.proofs.inner.plain_results.plain_quotient.Statement.{statement}

@@ -1,4 +1,4 @@
--- `range::inner::plain_results::product_end` meets its contract: the products end at that of the two ends (`PlainResults`).
+-- `tiles::inner::plain_results::product_end` meets its contract: the products end at that of the two ends (`PlainResults`).
 use mathlib.Core.Bool.{false}
 use Rattle.tiles.proofs.PlainCells.{end-posit-fits}
 use Rattle.tiles.proofs.PlainResults.{end-edge, end-between, result-cell-above}

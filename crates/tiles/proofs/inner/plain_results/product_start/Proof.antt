@@ -1,4 +1,4 @@
--- `range::inner::plain_results::product_start` meets its contract: an open 0 where either range starts there, else the start of the products is that of the two starts (`PlainResults`).
+-- `tiles::inner::plain_results::product_start` meets its contract: an open 0 where either range starts there, else the start of the products is that of the two starts (`PlainResults`).
 use mathlib.Core.Bool.{false}
 use Rattle.tiles.proofs.PlainCells.{start-posit-fits}
 use Rattle.tiles.proofs.PlainResults.{start-edge, zero-first, zero-second, start-between, result-cell-above}

@@ -1,4 +1,4 @@
--- `range::inner::plain_results::quotient_end` meets its contract: no limit where the divisor starts at an open 0, else the end over the start (`PlainResults`).
+-- `tiles::inner::plain_results::quotient_end` meets its contract: no limit where the divisor starts at an open 0, else the end over the start (`PlainResults`).
 use mathlib.Core.Bool.{true}
 use native.Mathlib.Omega.{arith}
 use borrow.Author.Needs.{needs}

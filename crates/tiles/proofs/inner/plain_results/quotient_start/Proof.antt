@@ -1,4 +1,4 @@
--- `range::inner::plain_results::quotient_start` meets its contract: an open 0 where the dividend starts there, else the start over the end (`PlainResults`).
+-- `tiles::inner::plain_results::quotient_start` meets its contract: an open 0 where the dividend starts there, else the start over the end (`PlainResults`).
 use mathlib.Core.Bool.{true}
 use Rattle.tiles.proofs.PlainCells.{start-posit-fits, end-posit-fits}
 use Rattle.tiles.proofs.PlainResults.{start-edge, end-edge, zero-first, start-between, result-cell-above}

@@ -1,4 +1,4 @@
--- `range::inner::plain_results::start_tile_from` meets its contract: the tile of a cell above that of 0 is its distance from the cells up to 0 (`PlainResults`).
+-- `tiles::inner::plain_results::start_tile_from` meets its contract: the tile of a cell above that of 0 is its distance from the cells up to 0 (`PlainResults`).
 use native.Mathlib.Omega.{arith}
 use borrow.Author.Needs.{needs}
 use Rattle.posit.proofs.Mirror.{power-wider}

@@ -1,4 +1,4 @@
--- `range::inner::plain_results::sum_end_tile` meets its contract: the sums end at that of the two ends (`PlainResults`).
+-- `tiles::inner::plain_results::sum_end_tile` meets its contract: the sums end at that of the two ends (`PlainResults`).
 use Rattle.tiles.proofs.PlainCells.{end-posit-fits}
 use Rattle.tiles.proofs.PlainResults.{sum-cell-above, sums-end}
 use Rattle.tiles.proofs.inner.plain_results.sum_end_tile.Statement.{statement}

@@ -1,4 +1,4 @@
--- `range::inner::plain_results::sum_start_tile` meets its contract: beyond an open 0 the sums start at the other start, open, else at the sum of the two (`SumTiles`).
+-- `tiles::inner::plain_results::sum_start_tile` meets its contract: beyond an open 0 the sums start at the other start, open, else at the sum of the two (`SumTiles`).
 use Rattle.tiles.proofs.PlainCells.{start-posit-fits, start-finite}
 use Rattle.tiles.proofs.PlainResults.{sum-cell-above}
 use Rattle.tiles.proofs.SumTiles.{sums-start, sums-from-left, sums-from-right}

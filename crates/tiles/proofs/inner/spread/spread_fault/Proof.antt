@@ -1,4 +1,4 @@
--- `range::inner::spread::spread_fault` meets its contract: each number joined passes 2^63 where its test fails (`Faults`).
+-- `tiles::inner::spread::spread_fault` meets its contract: each number joined passes 2^63 where its test fails (`Faults`).
 use native.Mathlib.Omega.{arith}
 use lib.Pow.{pow-pos}
 use borrow.Author.Needs.{needs}

@@ -1,4 +1,4 @@
--- `range::inner::spread::spread_quotient` meets its contract: the left range lies across 0 where its start lies below it, and else above (`Spreading`).
+-- `tiles::inner::spread::spread_quotient` meets its contract: the left range lies across 0 where its start lies below it, and else above (`Spreading`).
 use borrow.Author.Needs.{needs}
 use Rattle.tiles.proofs.Spreading.{across-here, plain-here}
 use Rattle.tiles.proofs.inner.spread.spread_quotient.Statement.{statement}

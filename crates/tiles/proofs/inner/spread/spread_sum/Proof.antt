@@ -1,4 +1,4 @@
--- `range::inner::spread::spread_sum` meets its contract: the left range lies across 0 where its start lies below it, and else above (`Spreading`), and the sums reach
+-- `tiles::inner::spread::spread_sum` meets its contract: the left range lies across 0 where its start lies below it, and else above (`Spreading`), and the sums reach
 -- from that of the starts to that of the ends.
 use mathlib.Core.Path.{_≡_}
 use mathlib.Core.Bool.{true, false}

@@ -1,4 +1,4 @@
--- `range::inner::spread::starts_below` meets its contract: the tile is the word's first bits, and its first bit is asked for.
+-- `tiles::inner::spread::starts_below` meets its contract: the tile is the word's first bits, and its first bit is asked for.
 use borrow.Author.Needs.{needs}
 use lib.Pow.{pow-pos}
 use Rattle.tiles.proofs.inner.spread.starts_below.Statement.{statement}

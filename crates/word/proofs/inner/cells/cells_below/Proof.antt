@@ -1,4 +1,4 @@
--- `range::inner::cells::cells_below` meets its contract: no cells are below any and any are below none; others are where the last of the left comes before the first of the right.
+-- `word::inner::cells::cells_below` meets its contract: no cells are below any and any are below none; others are where the last of the left comes before the first of the right.
 use mathlib.Core.Logic.{inl, inr}
 use native.Mathlib.Omega.{arith}
 use borrow.Author.Needs.{needs}

@@ -1,4 +1,4 @@
--- `range::inner::cells::cells_inside` meets its contract: no cells are inside any, and others are where neither end lies beyond.
+-- `word::inner::cells::cells_inside` meets its contract: no cells are inside any, and others are where neither end lies beyond.
 use mathlib.Core.Logic.{inl, inr}
 use native.Mathlib.Omega.{arith}
 use borrow.Author.Needs.{needs}

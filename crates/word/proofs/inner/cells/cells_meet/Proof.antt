@@ -1,4 +1,4 @@
--- `range::inner::cells::cells_meet` meets its contract: they do where both have cells and neither lies wholly before the other.
+-- `word::inner::cells::cells_meet` meets its contract: they do where both have cells and neither lies wholly before the other.
 use native.Mathlib.Omega.{arith}
 use borrow.Author.Needs.{needs}
 use Rattle.word.proofs.Replies.{says-no, says-le, meets-spans}

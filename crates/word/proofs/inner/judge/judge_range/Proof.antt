@@ -1,4 +1,4 @@
--- `range::inner::judge::judge_range` meets its contract: within the limits the word's own tests are left.
+-- `word::inner::judge::judge_range` meets its contract: within the limits the word's own tests are left.
 use mathlib.Core.Path.{sym, _∙_}
 use borrow.Author.Needs.{needs}
 use borrow.Author.Tests.{not-true, not-false}

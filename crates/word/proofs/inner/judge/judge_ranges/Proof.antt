@@ -1,4 +1,4 @@
--- `range::inner::judge::judge_ranges` meets its contract: the verdict is that of both operands taken apart.
+-- `word::inner::judge::judge_ranges` meets its contract: the verdict is that of both operands taken apart.
 use borrow.Author.Needs.{needs}
 use Rattle.word.proofs.Taking.{both-refused, both-done}
 use Rattle.word.proofs.inner.judge.judge_ranges.Statement.{statement}

@@ -1,4 +1,4 @@
--- `range::inner::judge::judge_word` meets its contract: the word is refused by the same number at every place.
+-- `word::inner::judge::judge_word` meets its contract: the word is refused by the same number at every place.
 use borrow.Author.Needs.{needs}
 use Rattle.word.proofs.Taking.{says-refused, says-done}
 use Rattle.word.proofs.inner.judge.judge_word.Statement.{statement}

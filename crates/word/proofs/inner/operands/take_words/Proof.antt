@@ -1,4 +1,4 @@
--- `range::inner::operands::take_words` meets its contract: the format, the left word and the right word are tested in this order.
+-- `word::inner::operands::take_words` meets its contract: the format, the left word and the right word are tested in this order.
 use mathlib.Core.Path.{sym, _∙_}
 use borrow.Author.Needs.{needs}
 use borrow.Author.Tests.{not-true, not-false}

@@ -1,4 +1,4 @@
--- `range::inner::span::end_tile_at` meets its contract: it is the definition, over half the tiles; the topmost cell comes out as an open NaR by itself.
+-- `word::inner::span::end_tile_at` meets its contract: it is the definition, over half the tiles; the topmost cell comes out as an open NaR by itself.
 use native.Mathlib.Omega.{arith}
 use borrow.Author.Needs.{needs}
 use Rattle.posit.proofs.Mirror.{power-wider}

@@ -1,4 +1,4 @@
--- `range::inner::span::joined` meets its contract: two tiles of at most 17 bits fit one word.
+-- `word::inner::span::joined` meets its contract: two tiles of at most 17 bits fit one word.
 use native.Mathlib.Omega.{arith}
 use borrow.Author.Needs.{needs}
 use Rattle.word.proofs.Tiles.{joined-small}

@@ -1,4 +1,4 @@
--- `range::inner::span::mirror` meets its contract: its test is that of the definition, and no cell lies above the top one.
+-- `word::inner::span::mirror` meets its contract: its test is that of the definition, and no cell lies above the top one.
 use borrow.Author.Needs.{needs}
 use borrow.Author.Tests.{lt-ltb, le-ltb}
 use Rattle.word.proofs.inner.span.mirror.Statement.{statement}

@@ -1,4 +1,4 @@
--- `range::inner::span::no_cells` meets its contract: what it makes is the definition.
+-- `word::inner::span::no_cells` meets its contract: what it makes is the definition.
 use native.Mathlib.Omega.{arith}
 use borrow.Author.Needs.{needs}
 use Rattle.posit.proofs.Mirror.{power-wider}

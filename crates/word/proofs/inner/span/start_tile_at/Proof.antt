@@ -1,4 +1,4 @@
--- `range::inner::span::start_tile_at` meets its contract: it is the definition, over half the tiles.
+-- `word::inner::span::start_tile_at` meets its contract: it is the definition, over half the tiles.
 use native.Mathlib.Omega.{arith}
 use borrow.Author.Needs.{needs}
 use lib.Pow.{pow-pos}

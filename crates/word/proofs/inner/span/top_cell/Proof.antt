@@ -1,4 +1,4 @@
--- `range::inner::span::top_cell` meets its contract: the tiles are twice 2^n.
+-- `word::inner::span::top_cell` meets its contract: the tiles are twice 2^n.
 use native.Mathlib.Omega.{arith}
 use borrow.Author.Needs.{needs}
 use Rattle.posit.proofs.Mirror.{power-wider}

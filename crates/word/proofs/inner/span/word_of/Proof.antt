@@ -1,4 +1,4 @@
--- `range::inner::span::word_of` meets its contract: no cells give the empty word, and others the tiles of their first and last cell.
+-- `word::inner::span::word_of` meets its contract: no cells give the empty word, and others the tiles of their first and last cell.
 use native.Mathlib.Omega.{arith}
 use borrow.Author.Needs.{needs}
 use borrow.Author.Tests.{lt-ltb, le-ltb}

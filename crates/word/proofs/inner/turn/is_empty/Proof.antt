@@ -1,4 +1,4 @@
--- `range::inner::turn::is_empty` meets its contract: it tests the three facts in turn.
+-- `word::inner::turn::is_empty` meets its contract: it tests the three facts in turn.
 use Prim.Native.Nat.{_+_}
 use native.Mathlib.Omega.{arith}
 use borrow.Author.Needs.{needs}

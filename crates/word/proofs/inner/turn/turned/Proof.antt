@@ -1,4 +1,4 @@
--- `range::inner::turn::turned` meets its contract: the empty word for an empty range, and else both tiles turned and exchanged.
+-- `word::inner::turn::turned` meets its contract: the empty word for an empty range, and else both tiles turned and exchanged.
 use mathlib.Core.Path.{sym, _∙_}
 use mathlib.Core.Bool.{true≢false}
 use native.Mathlib.Omega.{arith}

@@ -1,4 +1,4 @@
--- `range::inner::turn::turned_tile` meets its contract: it is the definition, and a negated posit is one of n bits.
+-- `word::inner::turn::turned_tile` meets its contract: it is the definition, and a negated posit is one of n bits.
 use Prim.Native.Nat.{_/_}
 use native.Mathlib.Omega.{arith}
 use borrow.Author.Needs.{needs}

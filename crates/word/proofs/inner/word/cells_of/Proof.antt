@@ -1,4 +1,4 @@
--- `range::inner::word::cells_of` meets its contract: no tile of a real range is a closed NaR, and then the turned tiles give its cells (`Taking`).
+-- `word::inner::word::cells_of` meets its contract: no tile of a real range is a closed NaR, and then the turned tiles give its cells (`Taking`).
 use mathlib.Core.Path.{_∙_}
 use native.Mathlib.Omega.{arith}
 use borrow.Author.Needs.{needs}

@@ -1,4 +1,4 @@
--- `range::inner::word::end_tile` meets its contract: a tile has at most 17 bits.
+-- `word::inner::word::end_tile` meets its contract: a tile has at most 17 bits.
 use borrow.Author.Needs.{needs}
 use lib.Pow.{pow-pos}
 use Rattle.word.proofs.Tiles.{end-tile-small}

@@ -1,4 +1,4 @@
--- `range::inner::word::start_tile` meets its contract: a word that fits has a start tile of at most 17 bits.
+-- `word::inner::word::start_tile` meets its contract: a word that fits has a start tile of at most 17 bits.
 use borrow.Author.Needs.{needs}
 use lib.Pow.{pow-pos}
 use Rattle.word.proofs.Tiles.{start-tile-small}

@@ -1,4 +1,4 @@
--- `range::inner::word::take_word` meets its contract: each of its answers is a law of `Taking`, over the two tiles and half of all tiles.
+-- `word::inner::word::take_word` meets its contract: each of its answers is a law of `Taking`, over the two tiles and half of all tiles.
 use native.Mathlib.Omega.{arith}
 use borrow.Author.Needs.{needs}
 use Rattle.word.proofs.Taking.{Opened, half-fits, end-there, turned-there, takes-large, takes-closed-start, takes-closed-end, takes-cells, takes-none, takes-turned}

@@ -1,4 +1,4 @@
--- `range::inner::word::without_cells` meets its contract: its cells are those of no cell.
+-- `word::inner::word::without_cells` meets its contract: its cells are those of no cell.
 use borrow.Author.Needs.{needs}
 use Rattle.word.proofs.inner.word.without_cells.Statement.{statement}
 use Rattle.word.proofs.inner.word.without_cells.Tie as tie
