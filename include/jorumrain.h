@@ -111,55 +111,55 @@ enum {
 };
 
 /* Number, place and a posit. */
-typedef struct PositAnswer {
+typedef struct JorumrainPositAnswer {
     uint32_t number;
     uint32_t place;
     uint32_t posit;
-} PositAnswer;
+} JorumrainPositAnswer;
 
 /* Number, place and a decoded posit. A finite one is fraction * 2^scale, negated where `negative` is
  * set; the other kinds have sign, scale and fraction 0. */
-typedef struct PositDecoding {
+typedef struct JorumrainPositDecoding {
     uint32_t number;
     uint32_t place;
     uint32_t kind;
     bool negative;
     int32_t scale;
     uint32_t fraction;
-} PositDecoding;
+} JorumrainPositDecoding;
 
 /* Number, place and an order: JORUMRAIN_LESS, JORUMRAIN_EQUAL or JORUMRAIN_GREATER. */
-typedef struct PositComparison {
+typedef struct JorumrainPositComparison {
     uint32_t number;
     uint32_t place;
     uint32_t order;
-} PositComparison;
+} JorumrainPositComparison;
 
 /* Number, place and a posit as a float: its kind, JORUMRAIN_FLOAT or JORUMRAIN_NAR, and its value,
  * which is 0.0 for NaR and never a NaN. */
-typedef struct PositFloating {
+typedef struct JorumrainPositFloating {
     uint32_t number;
     uint32_t place;
     uint32_t kind;
     double value;
-} PositFloating;
+} JorumrainPositFloating;
 
 /* Number, place and a range word. */
-typedef struct RangeAnswer {
+typedef struct JorumrainRangeAnswer {
     uint32_t number;
     uint32_t place;
     uint64_t word;
-} RangeAnswer;
+} JorumrainRangeAnswer;
 
 /* Number, place and a yes or no. */
-typedef struct RangeReply {
+typedef struct JorumrainRangeReply {
     uint32_t number;
     uint32_t place;
     bool yes;
-} RangeReply;
+} JorumrainRangeReply;
 
 /* Number, place, and a range as two floats with their open marks and an empty mark. */
-typedef struct RangeOutgoing {
+typedef struct JorumrainRangeOutgoing {
     uint32_t number;
     uint32_t place;
     double low;
@@ -167,83 +167,83 @@ typedef struct RangeOutgoing {
     bool low_open;
     bool high_open;
     bool empty;
-} RangeOutgoing;
+} JorumrainRangeOutgoing;
 
 /* Number, place and the count of words written. */
-typedef struct SheetAnswer {
+typedef struct JorumrainSheetAnswer {
     uint32_t number;
     uint32_t place;
     uint32_t count;
-} SheetAnswer;
+} JorumrainSheetAnswer;
 
 /* ---- Posits ---- */
 
 /* Decodes the posit p: zero, NaR, or sign, scale and fraction, the fraction always odd.
  * Refused: 1 at place 0, 3 at place 0. */
-PositDecoding jorumrain_posit_decode(uint32_t n, uint32_t es, uint32_t p);
+JorumrainPositDecoding jorumrain_posit_decode(uint32_t n, uint32_t es, uint32_t p);
 
 /* Encodes zero, NaR or any sign, scale and fraction, rounding to a posit by document 01's rule. A
  * fraction of 0 is zero, and a kind above JORUMRAIN_FINITE is taken as NaR; sign, scale and fraction
  * count for JORUMRAIN_FINITE only.
  * Refused: 1 at place 0. */
-PositAnswer jorumrain_posit_encode(uint32_t n, uint32_t es, uint32_t kind, bool negative,
-                                   int32_t scale, uint32_t fraction);
+JorumrainPositAnswer jorumrain_posit_encode(uint32_t n, uint32_t es, uint32_t kind, bool negative,
+                                            int32_t scale, uint32_t fraction);
 
 /* Compares p with q; NaR equals itself and is below all else. A refused comparison says equal.
  * Refused: 1 at place 0, 3 at place 0 for p, 3 at place 1 for q. */
-PositComparison jorumrain_posit_compare(uint32_t n, uint32_t es, uint32_t p, uint32_t q);
+JorumrainPositComparison jorumrain_posit_compare(uint32_t n, uint32_t es, uint32_t p, uint32_t q);
 
 /* Negates p; zero and NaR stay.
  * Refused: 1 at place 0, 3 at place 0. */
-PositAnswer jorumrain_posit_negate(uint32_t n, uint32_t es, uint32_t p);
+JorumrainPositAnswer jorumrain_posit_negate(uint32_t n, uint32_t es, uint32_t p);
 
 /* Adds, subtracts, multiplies or divides, rounded once; NaR and a zero divisor give NaR, which is no
  * refusal.
  * Refused: 1 at place 0, 2 at place 0, 3 at place 0 for p, 3 at place 1 for q. */
-PositAnswer jorumrain_posit_operate(uint32_t n, uint32_t es, uint8_t op, uint32_t p, uint32_t q);
+JorumrainPositAnswer jorumrain_posit_operate(uint32_t n, uint32_t es, uint8_t op, uint32_t p, uint32_t q);
 
 /* Rounds the exact value of a float to a posit; -0.0 gives 0, a NaN and the infinities give NaR.
  * Refused: 1 at place 0. */
-PositAnswer jorumrain_posit_from_float(uint32_t n, uint32_t es, double x);
+JorumrainPositAnswer jorumrain_posit_from_float(uint32_t n, uint32_t es, double x);
 
 /* Gives the exact value of p as a float, or the kind JORUMRAIN_NAR; zero is +0.0.
  * Refused: 1 at place 0, 3 at place 0. */
-PositFloating jorumrain_posit_to_float(uint32_t n, uint32_t es, uint32_t p);
+JorumrainPositFloating jorumrain_posit_to_float(uint32_t n, uint32_t es, uint32_t p);
 
 /* ---- Ranges ---- */
 
 /* Negates each member of a.
  * Refused: 1 at place 0, then 3 and 4 at place 0. */
-RangeAnswer jorumrain_range_negate(uint32_t n, uint32_t es, uint64_t a);
+JorumrainRangeAnswer jorumrain_range_negate(uint32_t n, uint32_t es, uint64_t a);
 
 /* Adds, subtracts, multiplies or divides: the smallest range of this format that holds every exact
  * result of a member of a and a member of b, taken as independent; empty where a or b is empty.
  * Refused: 1 at place 0, 2 at place 0, 3 and 4 at place 0 for a, 3 and 4 at place 1 for b, then 5 at
  * place 1. */
-RangeAnswer jorumrain_range_operate(uint32_t n, uint32_t es, uint8_t op, uint64_t a, uint64_t b);
+JorumrainRangeAnswer jorumrain_range_operate(uint32_t n, uint32_t es, uint8_t op, uint64_t a, uint64_t b);
 
 /* Gives the smallest range that holds all rationals from low to high, both included; -infinity as
  * low and +infinity as high mean unbounded.
  * Refused: 1 at place 0, 6 at place 0. */
-RangeAnswer jorumrain_range_take_in(uint32_t n, uint32_t es, double low, double high);
+JorumrainRangeAnswer jorumrain_range_take_in(uint32_t n, uint32_t es, double low, double high);
 
 /* Gives both ends of a exactly as floats, with their open marks. Unbounded ends are the infinities,
  * open; an empty range is 0.0 twice, both open, with the empty mark set.
  * Refused: 1 at place 0, then 3 and 4 at place 0; the marks are then unset. */
-RangeOutgoing jorumrain_range_give_out(uint32_t n, uint32_t es, uint64_t a);
+JorumrainRangeOutgoing jorumrain_range_give_out(uint32_t n, uint32_t es, uint64_t a);
 
 /* Says whether each member of a is in b; an empty a is inside every range. A refusal says no.
  * Refused: 1 at place 0, 3 and 4 at place 0 for a, 3 and 4 at place 1 for b. */
-RangeReply jorumrain_range_inside(uint32_t n, uint32_t es, uint64_t a, uint64_t b);
+JorumrainRangeReply jorumrain_range_inside(uint32_t n, uint32_t es, uint64_t a, uint64_t b);
 
 /* Says whether some member is in both; an empty range meets nothing. A refusal says no.
  * Refused: as for jorumrain_range_inside. */
-RangeReply jorumrain_range_meets(uint32_t n, uint32_t es, uint64_t a, uint64_t b);
+JorumrainRangeReply jorumrain_range_meets(uint32_t n, uint32_t es, uint64_t a, uint64_t b);
 
 /* Says whether each member of a is less than each of b; with an empty range that is so. A refusal
  * says no.
  * Refused: as for jorumrain_range_inside. */
-RangeReply jorumrain_range_below(uint32_t n, uint32_t es, uint64_t a, uint64_t b);
+JorumrainRangeReply jorumrain_range_below(uint32_t n, uint32_t es, uint64_t a, uint64_t b);
 
 /* ---- Columns and sheets ---- */
 
@@ -253,10 +253,10 @@ RangeReply jorumrain_range_below(uint32_t n, uint32_t es, uint64_t a, uint64_t b
  * Refused: 1, 2, 7 and 9 at place 0 (7: unequal lengths, or over JORUMRAIN_LONGEST_COLUMN; 9: row plus
  * the columns' length exceeds lent_length); then pair by pair 3 and 4 for the left, 3 and 4 for the
  * right, and 5, with the pair as place. */
-SheetAnswer jorumrain_columns_combine(uint32_t n, uint32_t es, uint8_t op,
-                                      const uint64_t *left, size_t left_length,
-                                      const uint64_t *right, size_t right_length,
-                                      size_t row, uint64_t *lent, size_t lent_length);
+JorumrainSheetAnswer jorumrain_columns_combine(uint32_t n, uint32_t es, uint8_t op,
+                                               const uint64_t *left, size_t left_length,
+                                               const uint64_t *right, size_t right_length,
+                                               size_t row, uint64_t *lent, size_t lent_length);
 
 /* Works a sheet. The inputs are its first rows, kept as given. Each step is JORUMRAIN_STEP_BYTES
  * bytes, an operation and two earlier rows, and adds a row; `steps_length` counts bytes. The rows go
@@ -265,10 +265,10 @@ SheetAnswer jorumrain_columns_combine(uint32_t n, uint32_t es, uint8_t op,
  * Refused: 1, 7 and 9 at place 0 (7: over JORUMRAIN_MOST_INPUTS or JORUMRAIN_MOST_STEPS, or bytes that
  * are no whole number of steps; 9: inputs plus steps exceed lent_length); then 3 and 4 for each input;
  * then 2, 8 and 5 for each step; with the row of that input or step as place. */
-SheetAnswer jorumrain_sheet_work(uint32_t n, uint32_t es,
-                                 const uint64_t *inputs, size_t inputs_length,
-                                 const uint8_t *steps, size_t steps_length,
-                                 uint64_t *lent, size_t lent_length);
+JorumrainSheetAnswer jorumrain_sheet_work(uint32_t n, uint32_t es,
+                                          const uint64_t *inputs, size_t inputs_length,
+                                          const uint8_t *steps, size_t steps_length,
+                                          uint64_t *lent, size_t lent_length);
 
 /* Works the sheet of a sheet file, whose bytes are: the mark "RSH"; version 1 in two bytes, low byte
  * first; n, es, the count of inputs and the count of steps, a byte each; the inputs in 8 bytes each,
@@ -276,8 +276,8 @@ SheetAnswer jorumrain_sheet_work(uint32_t n, uint32_t es,
  * jorumrain_sheet_work.
  * Refused: 10 at place 0 for under 9 bytes, the mark or the version; 1, 7, and 10 for the length, all
  * at place 0; then 9 and the rest as for jorumrain_sheet_work. */
-SheetAnswer jorumrain_file_work(const uint8_t *file, size_t file_length,
-                                uint64_t *lent, size_t lent_length);
+JorumrainSheetAnswer jorumrain_file_work(const uint8_t *file, size_t file_length,
+                                         uint64_t *lent, size_t lent_length);
 
 #ifdef __cplusplus
 }

@@ -28,8 +28,8 @@ int main(void) {
     double best = 1e300;
     for (int round = 0; round < ROUNDS; round++) {
         double start = now();
-        SheetAnswer answer = jorumrain_columns_combine(N, ES, JORUMRAIN_MULTIPLY, left, LENGTH, right,
-                                                       LENGTH, 0, lent, LENGTH);
+        JorumrainSheetAnswer answer = jorumrain_columns_combine(
+            N, ES, JORUMRAIN_MULTIPLY, left, LENGTH, right, LENGTH, 0, lent, LENGTH);
         double taken = now() - start;
         if (answer.count != LENGTH) {
             return 1;

@@ -1,4 +1,10 @@
 /* Every exported call once with an answer and once refused, and lent memory that a refused call keeps; C11 and C++. */
+
+/* A name that a program may well have for itself, which the header leaves to it. */
+typedef struct PositAnswer {
+    int own;
+} PositAnswer;
+
 #include "jorumrain.h"
 
 #include <math.h>
@@ -39,7 +45,7 @@
 #define DONE(answer) IS(answer, JORUMRAIN_DONE, 0u)
 
 static void decode_and_encode(void) {
-    PositDecoding d = jorumrain_posit_decode(N, ES, MINUS_THREE);
+    JorumrainPositDecoding d = jorumrain_posit_decode(N, ES, MINUS_THREE);
     DONE(d);
     HOLD(d.kind == JORUMRAIN_FINITE && d.negative && d.scale == 0 && d.fraction == 3);
     d = jorumrain_posit_decode(N, ES, NAR);
@@ -49,7 +55,7 @@ static void decode_and_encode(void) {
     IS(d, JORUMRAIN_TOO_LARGE, JORUMRAIN_LEFT);
     HOLD(d.kind == JORUMRAIN_ZERO && !d.negative && d.scale == 0 && d.fraction == 0);
 
-    PositAnswer p = jorumrain_posit_encode(N, ES, JORUMRAIN_FINITE, true, -1, 6);
+    JorumrainPositAnswer p = jorumrain_posit_encode(N, ES, JORUMRAIN_FINITE, true, -1, 6);
     DONE(p);
     HOLD(p.posit == MINUS_THREE);
     p = jorumrain_posit_encode(N, ES, 7, false, 0, 1);
@@ -61,7 +67,7 @@ static void decode_and_encode(void) {
 }
 
 static void compare_negate_and_operate(void) {
-    PositComparison c = jorumrain_posit_compare(N, ES, ONE, TWO);
+    JorumrainPositComparison c = jorumrain_posit_compare(N, ES, ONE, TWO);
     DONE(c);
     HOLD(c.order == JORUMRAIN_LESS);
     c = jorumrain_posit_compare(N, ES, ONE, NAR);
@@ -71,7 +77,7 @@ static void compare_negate_and_operate(void) {
     IS(c, JORUMRAIN_TOO_LARGE, JORUMRAIN_RIGHT);
     HOLD(c.order == JORUMRAIN_EQUAL);
 
-    PositAnswer p = jorumrain_posit_negate(N, ES, THREE);
+    JorumrainPositAnswer p = jorumrain_posit_negate(N, ES, THREE);
     DONE(p);
     HOLD(p.posit == MINUS_THREE);
     p = jorumrain_posit_negate(N, 3, THREE);
@@ -89,7 +95,7 @@ static void compare_negate_and_operate(void) {
 }
 
 static void floats(void) {
-    PositAnswer p = jorumrain_posit_from_float(N, ES, -3.0);
+    JorumrainPositAnswer p = jorumrain_posit_from_float(N, ES, -3.0);
     DONE(p);
     HOLD(p.posit == MINUS_THREE);
     p = jorumrain_posit_from_float(N, ES, HUGE_VAL);
@@ -98,7 +104,7 @@ static void floats(void) {
     p = jorumrain_posit_from_float(2, ES, 1.0);
     IS(p, JORUMRAIN_OUTSIDE_LIMITS, 0u);
 
-    PositFloating f = jorumrain_posit_to_float(N, ES, MINUS_THREE);
+    JorumrainPositFloating f = jorumrain_posit_to_float(N, ES, MINUS_THREE);
     DONE(f);
     HOLD(f.kind == JORUMRAIN_FLOAT && f.value == -3.0);
     f = jorumrain_posit_to_float(N, ES, NAR);
@@ -110,7 +116,7 @@ static void floats(void) {
 }
 
 static void ranges(void) {
-    RangeAnswer r = jorumrain_range_negate(N, ES, THREE_ONLY);
+    JorumrainRangeAnswer r = jorumrain_range_negate(N, ES, THREE_ONLY);
     DONE(r);
     HOLD(r.word == WORD(0x168, 0x168));
     r = jorumrain_range_negate(N, ES, WITH_INFINITY);
@@ -131,7 +137,7 @@ static void ranges(void) {
     r = jorumrain_range_take_in(N, ES, 2.0, 1.0);
     IS(r, JORUMRAIN_BAD_READING, 0u);
 
-    RangeOutgoing o = jorumrain_range_give_out(N, ES, WORD(0x80, 0x101));
+    JorumrainRangeOutgoing o = jorumrain_range_give_out(N, ES, WORD(0x80, 0x101));
     DONE(o);
     HOLD(o.low == 1.0 && !o.low_open && o.high == HUGE_VAL && o.high_open && !o.empty);
     o = jorumrain_range_give_out(N, ES, EMPTY);
@@ -143,7 +149,7 @@ static void ranges(void) {
 }
 
 static void comparisons_of_ranges(void) {
-    RangeReply y = jorumrain_range_inside(N, ES, EMPTY, ONE_TO_TWO);
+    JorumrainRangeReply y = jorumrain_range_inside(N, ES, EMPTY, ONE_TO_TWO);
     DONE(y);
     HOLD(y.yes);
     y = jorumrain_range_inside(N, ES, EMPTY, NO_WORD);
@@ -180,7 +186,8 @@ static void columns(void) {
     const uint64_t right[] = {THREE_ONLY, ZERO_TO_ONE};
     uint64_t lent[] = {OLD, OLD, OLD, OLD};
 
-    SheetAnswer s = jorumrain_columns_combine(N, ES, JORUMRAIN_DIVIDE, left, 2, right, 2, 1, lent, 4);
+    JorumrainSheetAnswer s =
+        jorumrain_columns_combine(N, ES, JORUMRAIN_DIVIDE, left, 2, right, 2, 1, lent, 4);
     IS(s, JORUMRAIN_ZERO_DIVISOR, 1u);
     HOLD(s.count == 0);
     hold_old(lent, 0, 4);
@@ -210,7 +217,7 @@ static void sheets(void) {
     const uint8_t later[] = {JORUMRAIN_ADD, 0, 0, JORUMRAIN_DIVIDE, 0, 3};
     uint64_t lent[] = {OLD, OLD, OLD, OLD, OLD};
 
-    SheetAnswer s = jorumrain_sheet_work(N, ES, inputs, 2, later, 6, lent, 5);
+    JorumrainSheetAnswer s = jorumrain_sheet_work(N, ES, inputs, 2, later, 6, lent, 5);
     IS(s, JORUMRAIN_NOT_EARLIER, 3u);
     HOLD(s.count == 0);
     hold_old(lent, 0, 5);
@@ -240,7 +247,7 @@ static void files(void) {
                             0x00, 0x00, 0x00, 0x00, 0x00, 0x00, 0x03, 0x00, 0x01};
     uint64_t lent[] = {OLD, OLD, OLD, OLD, OLD};
 
-    SheetAnswer s = jorumrain_file_work(file, sizeof file - 1, lent, 5);
+    JorumrainSheetAnswer s = jorumrain_file_work(file, sizeof file - 1, lent, 5);
     IS(s, JORUMRAIN_BAD_FILE, 0u);
     HOLD(s.count == 0);
     s = jorumrain_file_work(NULL, 0, lent, 5);
