@@ -207,7 +207,7 @@ _SheetAnswer = _answer("SheetAnswer", count=ctypes.c_uint32)
 
 def _load():
     """The library, from JORUMRAIN_LIBRARY or from target/jorumrain of the repository."""
-    root = pathlib.Path(__file__).resolve().parents[2]
+    root = pathlib.Path(__file__).resolve().parents[3]
     built = root / "target" / "jorumrain" / "libjorumrain.so"
     path = os.environ.get("JORUMRAIN_LIBRARY") or built
     try:
