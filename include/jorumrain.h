@@ -4,7 +4,7 @@
  * The library decodes, encodes, compares, negates, adds, subtracts, multiplies and divides posits,
  * works with ranges so that every answer is the smallest range of all exact results, and does the
  * same along columns and sheets. Each call is proved to give, for every input, the answer or the
- * refusal that the archive's scope document (document 01) names, whose words stand below in quotes.
+ * refusal that the archive's scope document (document 01) names, whose words jorumrain_words gives.
  *
  * How to read an answer. Every answer begins with a number and a place. Look at the number first:
  * 0 means done, and only then does the rest of the answer hold. A refusal is a number from 1 to 10
@@ -38,36 +38,65 @@
 #include <stddef.h>
 #include <stdint.h>
 
+/* Has the compiler warn where an answer is dropped: without its number nothing in it holds. */
+#if defined(__GNUC__)
+#define JORUMRAIN_MUST_USE __attribute__((warn_unused_result))
+#else
+#define JORUMRAIN_MUST_USE
+#endif
+
 #ifdef __cplusplus
 extern "C" {
 #endif
 
-/* The numbers a call may come back with, each "given exactly when". */
+/* The numbers a call may come back with; jorumrain_words says when each is given. */
 enum {
-    /* "done" */
     JORUMRAIN_DONE = 0,
-    /* "n or es outside the format limits" */
     JORUMRAIN_OUTSIDE_LIMITS = 1,
-    /* "operation number above 3" */
     JORUMRAIN_NO_OPERATION = 2,
-    /* "posit of 2^n or more, or range word of 2^(2n+2) or more" */
     JORUMRAIN_TOO_LARGE = 3,
-    /* "the range holds infinity" */
     JORUMRAIN_HOLDS_INFINITY = 4,
-    /* "the divisor range has 0 as a member" */
     JORUMRAIN_ZERO_DIVISOR = 5,
-    /* "a reading with a NaN, low +infinity, high -infinity, or low above high" */
     JORUMRAIN_BAD_READING = 6,
-    /* "columns of unequal length or over 4,096; over 32 inputs or 64 steps; a step list that is no
-     * whole number of steps" */
     JORUMRAIN_WRONG_LENGTH = 7,
-    /* "a step names a row that isn't earlier" */
     JORUMRAIN_NOT_EARLIER = 8,
-    /* "the named row (0 for a sheet) plus the words to be written exceeds the lent column's length" */
     JORUMRAIN_NO_ROOM = 9,
-    /* "file shorter than 9 bytes, mark or version wrong, or wrong length" */
     JORUMRAIN_BAD_FILE = 10
 };
+
+/* The words of a number, which is given exactly when they hold. The text is constant. It is no call of
+ * the library, so a number that only a later library gives has no words here. */
+JORUMRAIN_MUST_USE
+static inline const char *jorumrain_words(uint32_t number) {
+    switch (number) {
+    case JORUMRAIN_DONE:
+        return "done";
+    case JORUMRAIN_OUTSIDE_LIMITS:
+        return "n or es outside the format limits";
+    case JORUMRAIN_NO_OPERATION:
+        return "operation number above 3";
+    case JORUMRAIN_TOO_LARGE:
+        return "posit of 2^n or more, or range word of 2^(2n+2) or more";
+    case JORUMRAIN_HOLDS_INFINITY:
+        return "the range holds infinity";
+    case JORUMRAIN_ZERO_DIVISOR:
+        return "the divisor range has 0 as a member";
+    case JORUMRAIN_BAD_READING:
+        return "a reading with a NaN, low +infinity, high -infinity, or low above high";
+    case JORUMRAIN_WRONG_LENGTH:
+        return "columns of unequal length or over 4,096; over 32 inputs or 64 steps; "
+               "a step list that is no whole number of steps";
+    case JORUMRAIN_NOT_EARLIER:
+        return "a step names a row that isn't earlier";
+    case JORUMRAIN_NO_ROOM:
+        return "the named row (0 for a sheet) plus the words to be written exceeds the lent column's "
+               "length";
+    case JORUMRAIN_BAD_FILE:
+        return "file shorter than 9 bytes, mark or version wrong, or wrong length";
+    default:
+        return "no number that this version knows";
+    }
+}
 
 /* The places of a single call: its left or only operand, and its right one. */
 enum {
@@ -180,69 +209,83 @@ typedef struct JorumrainSheetAnswer {
 
 /* Decodes the posit p: zero, NaR, or sign, scale and fraction, the fraction always odd.
  * Refused: 1 at place 0, 3 at place 0. */
+JORUMRAIN_MUST_USE
 JorumrainPositDecoding jorumrain_posit_decode(uint32_t n, uint32_t es, uint32_t p);
 
 /* Encodes zero, NaR or any sign, scale and fraction, rounding to a posit by document 01's rule. A
  * fraction of 0 is zero, and a kind above JORUMRAIN_FINITE is taken as NaR; sign, scale and fraction
  * count for JORUMRAIN_FINITE only.
  * Refused: 1 at place 0. */
+JORUMRAIN_MUST_USE
 JorumrainPositAnswer jorumrain_posit_encode(uint32_t n, uint32_t es, uint32_t kind, bool negative,
                                             int32_t scale, uint32_t fraction);
 
 /* Compares p with q; NaR equals itself and is below all else. A refused comparison says equal.
  * Refused: 1 at place 0, 3 at place 0 for p, 3 at place 1 for q. */
+JORUMRAIN_MUST_USE
 JorumrainPositComparison jorumrain_posit_compare(uint32_t n, uint32_t es, uint32_t p, uint32_t q);
 
 /* Negates p; zero and NaR stay.
  * Refused: 1 at place 0, 3 at place 0. */
+JORUMRAIN_MUST_USE
 JorumrainPositAnswer jorumrain_posit_negate(uint32_t n, uint32_t es, uint32_t p);
 
 /* Adds, subtracts, multiplies or divides, rounded once; NaR and a zero divisor give NaR, which is no
  * refusal.
  * Refused: 1 at place 0, 2 at place 0, 3 at place 0 for p, 3 at place 1 for q. */
+JORUMRAIN_MUST_USE
 JorumrainPositAnswer jorumrain_posit_operate(uint32_t n, uint32_t es, uint8_t op, uint32_t p, uint32_t q);
 
 /* Rounds the exact value of a float to a posit; -0.0 gives 0, a NaN and the infinities give NaR.
  * Refused: 1 at place 0. */
+JORUMRAIN_MUST_USE
 JorumrainPositAnswer jorumrain_posit_from_float(uint32_t n, uint32_t es, double x);
 
 /* Gives the exact value of p as a float, or the kind JORUMRAIN_NAR; zero is +0.0.
  * Refused: 1 at place 0, 3 at place 0. */
+JORUMRAIN_MUST_USE
 JorumrainPositFloating jorumrain_posit_to_float(uint32_t n, uint32_t es, uint32_t p);
 
 /* ---- Ranges ---- */
 
 /* Negates each member of a.
  * Refused: 1 at place 0, then 3 and 4 at place 0. */
+JORUMRAIN_MUST_USE
 JorumrainRangeAnswer jorumrain_range_negate(uint32_t n, uint32_t es, uint64_t a);
 
 /* Adds, subtracts, multiplies or divides: the smallest range of this format that holds every exact
  * result of a member of a and a member of b, taken as independent; empty where a or b is empty.
  * Refused: 1 at place 0, 2 at place 0, 3 and 4 at place 0 for a, 3 and 4 at place 1 for b, then 5 at
  * place 1. */
+JORUMRAIN_MUST_USE
 JorumrainRangeAnswer jorumrain_range_operate(uint32_t n, uint32_t es, uint8_t op, uint64_t a, uint64_t b);
 
 /* Gives the smallest range that holds all rationals from low to high, both included; -infinity as
  * low and +infinity as high mean unbounded.
  * Refused: 1 at place 0, 6 at place 0. */
+JORUMRAIN_MUST_USE
 JorumrainRangeAnswer jorumrain_range_take_in(uint32_t n, uint32_t es, double low, double high);
 
 /* Gives both ends of a exactly as floats, with their open marks. Unbounded ends are the infinities,
  * open; an empty range is 0.0 twice, both open, with the empty mark set.
  * Refused: 1 at place 0, then 3 and 4 at place 0; the marks are then unset. */
+JORUMRAIN_MUST_USE
 JorumrainRangeOutgoing jorumrain_range_give_out(uint32_t n, uint32_t es, uint64_t a);
 
 /* Says whether each member of a is in b; an empty a is inside every range. A refusal says no.
  * Refused: 1 at place 0, 3 and 4 at place 0 for a, 3 and 4 at place 1 for b. */
+JORUMRAIN_MUST_USE
 JorumrainRangeReply jorumrain_range_inside(uint32_t n, uint32_t es, uint64_t a, uint64_t b);
 
 /* Says whether some member is in both; an empty range meets nothing. A refusal says no.
  * Refused: as for jorumrain_range_inside. */
+JORUMRAIN_MUST_USE
 JorumrainRangeReply jorumrain_range_meets(uint32_t n, uint32_t es, uint64_t a, uint64_t b);
 
 /* Says whether each member of a is less than each of b; with an empty range that is so. A refusal
  * says no.
  * Refused: as for jorumrain_range_inside. */
+JORUMRAIN_MUST_USE
 JorumrainRangeReply jorumrain_range_below(uint32_t n, uint32_t es, uint64_t a, uint64_t b);
 
 /* ---- Columns and sheets ---- */
@@ -253,6 +296,7 @@ JorumrainRangeReply jorumrain_range_below(uint32_t n, uint32_t es, uint64_t a, u
  * Refused: 1, 2, 7 and 9 at place 0 (7: unequal lengths, or over JORUMRAIN_LONGEST_COLUMN; 9: row plus
  * the columns' length exceeds lent_length); then pair by pair 3 and 4 for the left, 3 and 4 for the
  * right, and 5, with the pair as place. */
+JORUMRAIN_MUST_USE
 JorumrainSheetAnswer jorumrain_columns_combine(uint32_t n, uint32_t es, uint8_t op,
                                                const uint64_t *left, size_t left_length,
                                                const uint64_t *right, size_t right_length,
@@ -265,6 +309,7 @@ JorumrainSheetAnswer jorumrain_columns_combine(uint32_t n, uint32_t es, uint8_t 
  * Refused: 1, 7 and 9 at place 0 (7: over JORUMRAIN_MOST_INPUTS or JORUMRAIN_MOST_STEPS, or bytes that
  * are no whole number of steps; 9: inputs plus steps exceed lent_length); then 3 and 4 for each input;
  * then 2, 8 and 5 for each step; with the row of that input or step as place. */
+JORUMRAIN_MUST_USE
 JorumrainSheetAnswer jorumrain_sheet_work(uint32_t n, uint32_t es,
                                           const uint64_t *inputs, size_t inputs_length,
                                           const uint8_t *steps, size_t steps_length,
@@ -276,6 +321,7 @@ JorumrainSheetAnswer jorumrain_sheet_work(uint32_t n, uint32_t es,
  * jorumrain_sheet_work.
  * Refused: 10 at place 0 for under 9 bytes, the mark or the version; 1, 7, and 10 for the length, all
  * at place 0; then 9 and the rest as for jorumrain_sheet_work. */
+JORUMRAIN_MUST_USE
 JorumrainSheetAnswer jorumrain_file_work(const uint8_t *file, size_t file_length,
                                          uint64_t *lent, size_t lent_length);
 

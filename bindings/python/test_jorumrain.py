@@ -220,8 +220,9 @@ class Files(Calls):
 
 class Words(unittest.TestCase):
     def test_a_refusal_says_its_number_in_words(self):
-        text = "refused 5 at place 1: the divisor range has 0 as a member"
-        self.assertEqual(str(Refused(5, 1)), text)
+        text = "refused 4 at place 1: the range holds infinity"
+        self.assertEqual(str(Refused(Number.HOLDS_INFINITY, 1)), text)
+        self.assertEqual(str(Refused(99, 0)), "refused 99 at place 0: " + j.words(99))
 
     def test_the_examples_of_the_module(self):
         self.assertEqual(doctest.testmod(j).failed, 0)

@@ -10,6 +10,7 @@ typedef struct PositAnswer {
 #include <math.h>
 #include <stdio.h>
 #include <stdlib.h>
+#include <string.h>
 
 #define N 8u
 #define ES 2u
@@ -43,6 +44,11 @@ typedef struct PositAnswer {
 /* The number and place of an answer of any kind. */
 #define IS(answer, n, p) HOLD((answer).number == (n) && (answer).place == (p))
 #define DONE(answer) IS(answer, JORUMRAIN_DONE, 0u)
+
+static void words(void) {
+    HOLD(strcmp(jorumrain_words(JORUMRAIN_HOLDS_INFINITY), "the range holds infinity") == 0);
+    HOLD(strcmp(jorumrain_words(UINT32_MAX), "no number that this version knows") == 0);
+}
 
 static void decode_and_encode(void) {
     JorumrainPositDecoding d = jorumrain_posit_decode(N, ES, MINUS_THREE);
@@ -265,6 +271,7 @@ static void files(void) {
 }
 
 int main(void) {
+    words();
     decode_and_encode();
     compare_negate_and_operate();
     floats();

@@ -36,13 +36,14 @@ __all__ = [
     "range_negate", "range_operate", "range_take_in", "range_give_out",
     "range_inside", "range_meets", "range_below",
     "columns_combine", "sheet_work", "file_work",
+    "words",
 ]
 
 # ---- Numbers with names
 
 
 class Number(enum.IntEnum):
-    """The numbers a call may come back with; `words` says when each is given."""
+    """The numbers a call may come back with, each given exactly when its `words` say."""
 
     DONE = 0
     OUTSIDE_LIMITS = 1
@@ -57,25 +58,31 @@ class Number(enum.IntEnum):
     BAD_FILE = 10
 
     @property
-    def words(self):
+    def words(self) -> str:
         """Document 01's words."""
         return _WORDS[self]
 
 
-_WORDS = (
-    "done",
-    "n or es outside the format limits",
-    "operation number above 3",
-    "posit of 2^n or more, or range word of 2^(2n+2) or more",
-    "the range holds infinity",
-    "the divisor range has 0 as a member",
-    "a reading with a NaN, low +infinity, high -infinity, or low above high",
-    "columns of unequal length or over 4,096; over 32 inputs or 64 steps; "
+_WORDS = {
+    Number.DONE: "done",
+    Number.OUTSIDE_LIMITS: "n or es outside the format limits",
+    Number.NO_OPERATION: "operation number above 3",
+    Number.TOO_LARGE: "posit of 2^n or more, or range word of 2^(2n+2) or more",
+    Number.HOLDS_INFINITY: "the range holds infinity",
+    Number.ZERO_DIVISOR: "the divisor range has 0 as a member",
+    Number.BAD_READING: "a reading with a NaN, low +infinity, high -infinity, or low above high",
+    Number.WRONG_LENGTH: "columns of unequal length or over 4,096; over 32 inputs or 64 steps; "
     "a step list that is no whole number of steps",
-    "a step names a row that isn't earlier",
-    "the named row (0 for a sheet) plus the words to be written exceeds the lent column's length",
-    "file shorter than 9 bytes, mark or version wrong, or wrong length",
-)
+    Number.NOT_EARLIER: "a step names a row that isn't earlier",
+    Number.NO_ROOM: "the named row (0 for a sheet) plus the words to be written exceeds "
+    "the lent column's length",
+    Number.BAD_FILE: "file shorter than 9 bytes, mark or version wrong, or wrong length",
+}
+
+
+def words(number: int) -> str:
+    """Document 01's words for a number, as `Number.words`; a number that has none is said to be so."""
+    return _WORDS.get(number, "no number that this version knows")
 
 
 class Operation(enum.IntEnum):
@@ -118,13 +125,13 @@ class Refused(Exception):
     the row of a sheet; a refusal that names no place has 0.
     """
 
-    def __init__(self, number, place):
+    def __init__(self, number: int, place: int):
         super().__init__(number, place)
-        self.number = Number(number)
+        self.number = Number(number) if number in _WORDS else number
         self.place = place
 
-    def __str__(self):
-        return f"refused {self.number:d} at place {self.place}: {self.number.words}"
+    def __str__(self) -> str:
+        return f"refused {self.number:d} at place {self.place}: {words(self.number)}"
 
 
 class Decoded(NamedTuple):

@@ -9,6 +9,7 @@ pub mod sheet;
 
 /// Number, place and a posit.
 #[repr(C)]
+#[must_use = "only its number says whether it holds"]
 #[derive(Clone, Copy, Debug, PartialEq, Eq)]
 pub struct PositAnswer {
     pub number: u32,
@@ -18,6 +19,7 @@ pub struct PositAnswer {
 
 /// Number, place and a decoded posit; sign, scale and fraction are unset where it is not finite.
 #[repr(C)]
+#[must_use = "only its number says whether it holds"]
 #[derive(Clone, Copy, Debug, PartialEq, Eq)]
 pub struct PositDecoding {
     pub number: u32,
@@ -30,6 +32,7 @@ pub struct PositDecoding {
 
 /// Number, place and an order.
 #[repr(C)]
+#[must_use = "only its number says whether it holds"]
 #[derive(Clone, Copy, Debug, PartialEq, Eq)]
 pub struct PositComparison {
     pub number: u32,
@@ -39,6 +42,7 @@ pub struct PositComparison {
 
 /// Number, place and a posit as a float: its kind, and the float where that is `FLOAT`, 0.0 elsewhere.
 #[repr(C)]
+#[must_use = "only its number says whether it holds"]
 #[derive(Clone, Copy, Debug)]
 pub struct PositFloating {
     pub number: u32,

@@ -243,12 +243,19 @@ fn files_are_worked() {
 
 #[test]
 fn a_refusal_says_its_number_in_words() {
-    let text = Refusal {
-        number: ZERO_DIVISOR,
-        place: RIGHT,
+    let text = |number| {
+        Refusal {
+            number,
+            place: RIGHT,
+        }
+        .to_string()
     };
     assert_eq!(
-        text.to_string(),
-        "refused 5 at place 1: the divisor range has 0 as a member"
+        text(HOLDS_INFINITY),
+        "refused 4 at place 1: the range holds infinity"
+    );
+    assert_eq!(
+        text(u32::MAX),
+        format!("refused {} at place 1: {}", u32::MAX, words(u32::MAX))
     );
 }

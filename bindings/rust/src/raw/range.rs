@@ -2,6 +2,7 @@
 
 /// Number, place and a range word.
 #[repr(C)]
+#[must_use = "only its number says whether it holds"]
 #[derive(Clone, Copy, Debug, PartialEq, Eq)]
 pub struct RangeAnswer {
     pub number: u32,
@@ -11,6 +12,7 @@ pub struct RangeAnswer {
 
 /// Number, place and a yes or no.
 #[repr(C)]
+#[must_use = "only its number says whether it holds"]
 #[derive(Clone, Copy, Debug, PartialEq, Eq)]
 pub struct RangeReply {
     pub number: u32,
@@ -20,6 +22,7 @@ pub struct RangeReply {
 
 /// Number, place, and a range as two floats with their open marks and an empty mark.
 #[repr(C)]
+#[must_use = "only its number says whether it holds"]
 #[derive(Clone, Copy, Debug, PartialEq)]
 pub struct RangeOutgoing {
     pub number: u32,

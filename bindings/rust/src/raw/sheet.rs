@@ -2,6 +2,7 @@
 
 /// Number, place and the count of words written.
 #[repr(C)]
+#[must_use = "only its number says whether it holds"]
 #[derive(Clone, Copy, Debug, PartialEq, Eq)]
 pub struct SheetAnswer {
     pub number: u32,
