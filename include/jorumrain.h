@@ -38,6 +38,12 @@
 #include <stddef.h>
 #include <stdint.h>
 
+/* The version of this header, as a number and as text. The number is 10,000 times the first of the
+ * version's numbers, plus 100 times the second, plus the third. A program runs with a library of the
+ * same first number that is not older; jorumrain_version tells which library it met. */
+#define JORUMRAIN_VERSION 10000
+#define JORUMRAIN_VERSION_TEXT "1.0.0"
+
 /* Has the compiler warn where an answer is dropped: without its number nothing in it holds. */
 #if defined(__GNUC__)
 #define JORUMRAIN_MUST_USE __attribute__((warn_unused_result))
@@ -204,6 +210,12 @@ typedef struct JorumrainSheetAnswer {
     uint32_t place;
     uint32_t count;
 } JorumrainSheetAnswer;
+
+/* ---- The library ---- */
+
+/* Gives the version of the library that the program met, as JORUMRAIN_VERSION gives the header's. */
+JORUMRAIN_MUST_USE
+uint32_t jorumrain_version(void);
 
 /* ---- Posits ---- */
 

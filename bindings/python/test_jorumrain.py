@@ -5,6 +5,7 @@ import doctest
 import math
 import unittest
 from array import array
+from unittest import mock
 
 import jorumrain as j
 from jorumrain import Decoded, Kind, Number, Operation, Order, Outgoing, Refused
@@ -216,6 +217,25 @@ class Files(Calls):
             self.refused(Number.BAD_FILE, 0, j.file_work, self.file[:-1], lent)
             self.refused(Number.NO_ROOM, 0, j.file_work, self.file, lent)
             self.assertEqual(list(lent), [OLD] * 3)
+
+
+class Library(unittest.TestCase):
+    def test_its_version_is_the_modules(self):
+        first, second, third = map(int, j.__version__.split("."))
+        self.assertEqual(j.version(), 10000 * first + 100 * second + third)
+
+    def test_another_version_is_not_taken(self):
+        first, second, third = map(int, j.__version__.split("."))
+        for other in (f"{first + 1}.0.0", f"{first}.{second}.{third + 1}", f"{first}.{second + 1}.0"):
+            with mock.patch.object(j, "__version__", other):
+                with self.assertRaisesRegex(OSError, f"this module {other}: run ./library"):
+                    j._load(j._place())
+
+    def test_another_library_is_not_taken(self):
+        with self.assertRaisesRegex(OSError, "does not tell its version: run ./library"):
+            j._load("libm.so.6")
+        with self.assertRaisesRegex(OSError, "No such file.*: run ./library"):
+            j._load("/nowhere/libjorumrain.so")
 
 
 class Words(unittest.TestCase):

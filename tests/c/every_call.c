@@ -45,7 +45,8 @@ typedef struct PositAnswer {
 #define IS(answer, n, p) HOLD((answer).number == (n) && (answer).place == (p))
 #define DONE(answer) IS(answer, JORUMRAIN_DONE, 0u)
 
-static void words(void) {
+static void version_and_words(void) {
+    HOLD(jorumrain_version() == JORUMRAIN_VERSION);
     HOLD(strcmp(jorumrain_words(JORUMRAIN_HOLDS_INFINITY), "the range holds infinity") == 0);
     HOLD(strcmp(jorumrain_words(UINT32_MAX), "no number that this version knows") == 0);
 }
@@ -271,7 +272,7 @@ static void files(void) {
 }
 
 int main(void) {
-    words();
+    version_and_words();
     decode_and_encode();
     compare_negate_and_operate();
     floats();

@@ -10,8 +10,9 @@ An int that does not fit the library's type for it (32 bits for n, es and a posi
 for an operation) raises ctypes.ArgumentError, and in a list OverflowError; it is never cut to its
 low bits.
 
-The library is the file named by the environment variable JORUMRAIN_LIBRARY, or else
-target/jorumrain/libjorumrain.so of the repository that this file stands in, which `./library` makes.
+The library is the file named by the environment variable JORUMRAIN_LIBRARY. Without that it is the
+one beside this module, where the module is installed, or that which `./library` leaves in the
+repository that this module stands in, or the one that the system's loader finds.
 
     >>> import jorumrain as j
     >>> hex(j.posit_operate(8, 2, j.Operation.ADD, 0x40, 0x40))
@@ -36,8 +37,10 @@ __all__ = [
     "range_negate", "range_operate", "range_take_in", "range_give_out",
     "range_inside", "range_meets", "range_below",
     "columns_combine", "sheet_work", "file_work",
-    "words",
+    "version", "words",
 ]
+
+__version__ = "1.0.0"
 
 # ---- Numbers with names
 
@@ -212,19 +215,41 @@ _RangeOutgoing = _answer(
 _SheetAnswer = _answer("SheetAnswer", count=ctypes.c_uint32)
 
 
-def _load():
-    """The library, from JORUMRAIN_LIBRARY or from target/jorumrain of the repository."""
-    root = pathlib.Path(__file__).resolve().parents[3]
-    built = root / "target" / "jorumrain" / "libjorumrain.so"
-    path = os.environ.get("JORUMRAIN_LIBRARY") or built
+_NAME = "libjorumrain.so." + __version__.split(".")[0]
+
+
+def _place():
+    """The library's file: named, beside this module once that is installed, in the repository, or where the loader looks."""
+    named = os.environ.get("JORUMRAIN_LIBRARY")
+    if named:
+        return os.path.abspath(named)
+    here = pathlib.Path(__file__).resolve().parent
+    if (here / _NAME).exists():
+        return str(here / _NAME)
+    if here.parts[-3:-1] == ("bindings", "python"):
+        return str(here.parents[2] / "target" / "jorumrain" / _NAME)
+    return _NAME
+
+
+def _load(path):
+    """The library, once its version is seen to be one that this module can call."""
+    advice = "run ./library at the repository's root, or name the file in JORUMRAIN_LIBRARY"
     try:
-        return ctypes.CDLL(os.fspath(path))
+        library = ctypes.CDLL(path)
+        library.jorumrain_version.restype = ctypes.c_uint32
+        met = library.jorumrain_version()
     except OSError as error:
-        advice = "run ./library at the repository's root, or name the file in JORUMRAIN_LIBRARY"
         raise OSError(f"{error}: {advice}") from None
+    except AttributeError:
+        raise OSError(f"{path} does not tell its version: {advice}") from None
+    first, second, third = map(int, __version__.split("."))
+    if met // 10000 != first or met < 10000 * first + 100 * second + third:
+        has = f"{met // 10000}.{met // 100 % 100}.{met % 100}"
+        raise OSError(f"{path} has version {has}, this module {__version__}: {advice}")
+    return library
 
 
-_library = _load()
+_library = _load(_place())
 
 
 def _call(name, result, *parameters):
@@ -232,7 +257,8 @@ def _call(name, result, *parameters):
     call = _library[name]
     call.argtypes = parameters
     call.restype = result
-    call.errcheck = _hold
+    if issubclass(result, ctypes.Structure):
+        call.errcheck = _hold
     return call
 
 
@@ -244,6 +270,7 @@ def _hold(answer, _call, arguments):
     return answer
 
 
+_version = _call("jorumrain_version", ctypes.c_uint32)
 _posit_decode = _call("jorumrain_posit_decode", _PositDecoding, _U32, _U32, _U32)
 _posit_encode = _call("jorumrain_posit_encode", _PositAnswer, _U32, _U32, _U32, _BOOL, _I32, _U32)
 _posit_compare = _call("jorumrain_posit_compare", _PositComparison, _U32, _U32, _U32, _U32)
@@ -267,6 +294,17 @@ _sheet_work = _call(
     _U32, _U32, _COLUMN, _LENGTH, _BYTES, _LENGTH, _COLUMN, _LENGTH,
 )  # fmt: skip
 _file_work = _call("jorumrain_file_work", _SheetAnswer, _BYTES, _LENGTH, _COLUMN, _LENGTH)
+
+# ---- The library
+
+
+def version() -> int:
+    """The library's version: 10,000 times its first number, plus 100 times its second, plus its third.
+
+    The module takes a library of its own first number that is not older than itself.
+    """
+    return _version()
+
 
 # ---- Posits
 

@@ -24,3 +24,12 @@ pub mod sheet;
 
 pub use operation::Operation;
 pub use refusal::Refusal;
+
+/// The version of this crate; the library that it is linked with gives its own by [`version`].
+pub const VERSION: &str = env!("CARGO_PKG_VERSION");
+
+/// The library's version: 10,000 times its first number, plus 100 times its second, plus its third.
+#[must_use]
+pub fn version() -> u32 {
+    raw::version()
+}

@@ -66,6 +66,9 @@ pub const GREATER: u32 = 2;
 
 // The declarations are those of crates/cabi, where no call asks anything of its caller.
 unsafe extern "C" {
+    #[link_name = "jorumrain_version"]
+    pub safe fn version() -> u32;
+
     #[link_name = "jorumrain_posit_decode"]
     pub safe fn decode(n: u32, es: u32, p: u32) -> PositDecoding;
 

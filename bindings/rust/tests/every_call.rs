@@ -259,3 +259,13 @@ fn a_refusal_says_its_number_in_words() {
         format!("refused {} at place 1: {}", u32::MAX, words(u32::MAX))
     );
 }
+
+#[test]
+fn the_library_has_the_version_of_the_crate() {
+    let numbers: Vec<u32> = jorumrain::VERSION
+        .split('.')
+        .map(|number| number.parse().expect("a version is three numbers"))
+        .collect();
+    let together = 10000 * numbers[0] + 100 * numbers[1] + numbers[2];
+    assert_eq!(jorumrain::version(), together);
+}

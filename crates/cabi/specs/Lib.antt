@@ -4,3 +4,4 @@ pub mod RangeShapes
 pub mod RangeCalls
 pub mod SheetShapes
 pub mod SheetCalls
+pub mod Version

@@ -16,3 +16,4 @@ pub mod shape;
 pub mod sheet_shape;
 pub mod sheets;
 pub mod to_float;
+pub mod version;
