@@ -12,6 +12,9 @@ slice-aggregate-read-full c = search needs
 read-full-requires : tie.Need-read-full-requires
 read-full-requires c κs = search needs
 
+see-the-end-requires : tie.Need-see-the-end-requires
+see-the-end-requires c κs = search needs
+
 array-share-prefix-file : tie.Need-array-share-prefix-file
 array-share-prefix-file c = search needs
 
@@ -46,6 +49,7 @@ main-spec =
     (tie.spec
     slice-aggregate-read-full
     read-full-requires
+    see-the-end-requires
     array-share-prefix-file
     slice-aggregate-sheet-text
     sheet-text-requires
