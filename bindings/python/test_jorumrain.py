@@ -3,6 +3,9 @@
 import ctypes
 import doctest
 import math
+import pathlib
+import pickle
+import tempfile
 import unittest
 from array import array
 from unittest import mock
@@ -161,11 +164,63 @@ class Columns(Calls):
             lent.append(OLD)
         self.assertEqual(len(lent), 2)
 
-    def test_other_memory(self):
+    def test_any_memory_of_64_bit_words(self):
+        def in_bytes(words):
+            return memoryview(bytearray(array("Q", words).tobytes())).cast("Q")
+
+        def in_ctypes(words):
+            return (ctypes.c_uint64 * len(words))(*words)
+
+        # The last has the form of NumPy's uint64.
+        for made in (in_bytes, in_ctypes, lambda words: array("L", words)):
+            left, right, lent = made(self.left), made(self.right), made([OLD] * 4)
+            self.assertIs(j._column(left, lent), left)
+            count = j.columns_combine(N, ES, Operation.ADD, left, right, 1, lent)
+            self.assertEqual((count, list(lent)), (2, [OLD, *self.sums, OLD]))
+            with self.assertRaises(Refused):
+                j.columns_combine(N, ES, Operation.ADD, left, right, 3, lent)
+            self.assertEqual(list(lent), [OLD, *self.sums, OLD])
+
+    def test_inputs_that_are_copied(self):
+        wide = array("Q", [word for word in self.right for _ in range(2)])
+        for made in (
+            tuple,
+            iter,
+            lambda words: array("q", words),
+            lambda words: memoryview(array("Q", words).tobytes()).cast("Q"),
+            lambda words: memoryview(wide)[::2],
+        ):
+            lent = array("Q", [OLD] * 2)
+            count = j.columns_combine(N, ES, Operation.ADD, self.left, made(self.right), 0, lent)
+            self.assertEqual((count, list(lent)), (2, self.sums))
+
+    def test_memory_that_is_shared(self):
+        lent = array("Q", [*self.left, *self.right, OLD])
+        view = memoryview(lent)
+        # Were it not copied, the first answer would be the second pair's right word.
+        count = j.columns_combine(N, ES, Operation.ADD, view[:2], view[2:4], 3, lent)
+        self.assertEqual((count, list(lent)), (2, [*self.left, THREE_ONLY, *self.sums]))
+        view = memoryview(array("Q", [*self.left, *self.right]))
+        self.assertIs(j._column(half := view[2:], view[:2]), half)
+
+    def test_no_column(self):
+        spread, kept = memoryview(array("Q", [0] * 4))[::2], memoryview(bytes(8)).cast("Q")
+        for lent in (array("I"), array("q"), (), spread, kept):
+            with self.assertRaises(TypeError):
+                j.columns_combine(N, ES, Operation.ADD, [], [], 0, lent)
+        for wrong in (2**64, -1):
+            with self.assertRaises(OverflowError):
+                j.columns_combine(N, ES, Operation.ADD, [wrong], [0], 0, [0])
         with self.assertRaises(TypeError):
-            j.columns_combine(N, ES, Operation.ADD, [], [], 0, array("L"))
-        with self.assertRaises(OverflowError):
-            j.columns_combine(N, ES, Operation.ADD, [2**64], [0], 0, [0])
+            j.columns_combine(N, ES, Operation.ADD, [0.5], [0], 0, [0])
+
+    def test_wrong_lengths_are_said(self):
+        for left, right, lengths in [(2, 3, "2 and 3 rows"), (100000, 100000, "100000 rows, at most 4096")]:
+            with self.assertRaises(Refused) as refusal:
+                j.columns_combine(N, ES, Operation.ADD, [0] * left, [0] * right, 0, [])
+            self.assertEqual(refusal.exception.lengths, lengths)
+            text = f"refused 7 at place 0: {Number.WRONG_LENGTH.words} (here {lengths})"
+            self.assertEqual(str(refusal.exception), text)
 
 
 class Sheets(Calls):
@@ -191,11 +246,38 @@ class Sheets(Calls):
                 self.refused(number, place, j.sheet_work, N, ES, inputs, steps, lent)
                 self.assertEqual(list(lent), [OLD] * 3)
 
-    def test_steps_in_a_list(self):
-        lent = [OLD] * 5
-        self.assertEqual(j.sheet_work(N, ES, self.inputs, list(self.steps), lent), 4)
-        with self.assertRaises(TypeError):
-            j.sheet_work(N, ES, self.inputs, 3, lent)
+    def test_steps_in_other_forms(self):
+        rows = [OLD] * 5
+        j.sheet_work(N, ES, self.inputs, self.steps, rows)
+        for steps in (
+            list(self.steps),
+            bytearray(self.steps),
+            [(Operation.ADD, 0, 0), (Operation.DIVIDE, 0, 1)],
+            ([operation, 0, right] for operation, right in [(0, 0), (3, 1)]),
+        ):
+            lent = [OLD] * 5
+            self.assertEqual(j.sheet_work(N, ES, self.inputs, steps, lent), 4)
+            self.assertEqual(lent, rows)
+        for wrong, error in [
+            (3, TypeError),
+            (["add"], TypeError),
+            ([(0, 0)], ValueError),
+            ([(0, 0, 0, 0)], ValueError),
+            ([(0, 0, 256)], ValueError),
+        ]:
+            with self.assertRaises(error):
+                j.sheet_work(N, ES, self.inputs, wrong, lent)
+
+    def test_wrong_lengths_are_said(self):
+        for inputs, steps, lengths in [
+            (33, 0, "33 inputs, at most 32"),
+            (0, 65 * 3, "65 steps, at most 64"),
+            (0, 5, "5 bytes of steps, 3 to a step"),
+            (40, 301, "40 inputs, at most 32; 100 steps, at most 64; 301 bytes of steps, 3 to a step"),
+        ]:
+            with self.assertRaises(Refused) as refusal:
+                j.sheet_work(N, ES, [0] * inputs, bytes(steps), [])
+            self.assertEqual(refusal.exception.lengths, lengths)
 
 
 class Files(Calls):
@@ -210,6 +292,23 @@ class Files(Calls):
         rows = [ONE_TO_TWO, THREE_ONLY, word(0x90, 0xA0), word(0x65, 0x77)]
         for lent in ([OLD] * 5, array("Q", [OLD] * 5)):
             self.assertEqual((j.file_work(self.file, lent), list(lent)), (4, [*rows, OLD]))
+
+    def test_by_its_path(self):
+        with tempfile.TemporaryDirectory() as folder:
+            path = pathlib.Path(folder) / "a.rsh"
+            path.write_bytes(self.file)
+            for named in (path, str(path)):
+                lent = [OLD] * 5
+                self.assertEqual(j.file_work(named, lent), 4)
+            path.write_bytes(self.file + bytes(1000))
+            self.refused(Number.BAD_FILE, 0, j.file_work, path, lent)
+            with self.assertRaises(FileNotFoundError):
+                j.file_work(path.with_suffix(".rows"), lent)
+
+    def test_wrong_lengths_are_said(self):
+        with self.assertRaises(Refused) as refusal:
+            j.file_work(self.file[:7] + bytes([200, 100]), [])
+        self.assertEqual(refusal.exception.lengths, "200 inputs, at most 32; 100 steps, at most 64")
 
     def test_refused(self):
         for lent in ([OLD] * 3, array("Q", [OLD] * 3)):
@@ -243,6 +342,11 @@ class Words(unittest.TestCase):
         text = "refused 4 at place 1: the range holds infinity"
         self.assertEqual(str(Refused(Number.HOLDS_INFINITY, 1)), text)
         self.assertEqual(str(Refused(99, 0)), "refused 99 at place 0: " + j.words(99))
+
+    def test_a_refusal_can_be_sent_to_another_process(self):
+        refusal = Refused(Number.WRONG_LENGTH, 0)
+        refusal.lengths = "2 and 3 rows"
+        self.assertEqual(str(pickle.loads(pickle.dumps(refusal))), str(refusal))
 
     def test_the_examples_of_the_module(self):
         self.assertEqual(doctest.testmod(j).failed, 0)

@@ -7,8 +7,8 @@ from 0 to 2. A posit is an int below 2**n. A range is an int, its start tile * 2
 tile, where a tile is a posit times 2, plus 1 for an open end.
 
 An int that does not fit the library's type for it (32 bits for n, es and a posit, 64 for a range, 8
-for an operation) raises ctypes.ArgumentError, and in a list OverflowError; it is never cut to its
-low bits.
+for an operation) raises ctypes.ArgumentError, in a column OverflowError and in a step ValueError; it
+is never cut to its low bits.
 
 The library is the file named by the environment variable JORUMRAIN_LIBRARY. Without that it is the
 one beside this module, where the module is installed, or that which `./library` leaves in the
@@ -27,7 +27,10 @@ import operator
 import os
 import pathlib
 from array import array
-from typing import NamedTuple, Optional
+from typing import TYPE_CHECKING, Iterable, List, NamedTuple, Optional, Tuple, Union
+
+if TYPE_CHECKING:
+    from typing_extensions import Buffer
 
 __all__ = [
     "Number", "Operation", "Kind", "Order", "Decoded", "Outgoing", "Refused",
@@ -125,16 +128,19 @@ class Refused(Exception):
     """A call refused: its `number`, from 1 to 10, and the `place` that the number speaks of.
 
     The place is 0 or 1 for the left and the right operand of a single call, the pair of a column, or
-    the row of a sheet; a refusal that names no place has 0.
+    the row of a sheet; a refusal that names no place has 0. With number 7 `lengths` says which lengths
+    were wrong.
     """
 
     def __init__(self, number: int, place: int):
         super().__init__(number, place)
         self.number = Number(number) if number in _WORDS else number
         self.place = place
+        self.lengths = ""
 
     def __str__(self) -> str:
-        return f"refused {self.number:d} at place {self.place}: {words(self.number)}"
+        text = f"refused {self.number:d} at place {self.place}: {words(self.number)}"
+        return f"{text} (here {self.lengths})" if self.lengths else text
 
 
 class Decoded(NamedTuple):
@@ -219,7 +225,7 @@ _NAME = "libjorumrain.so." + __version__.split(".")[0]
 
 
 def _place():
-    """The library's file: named, beside this module once that is installed, in the repository, or where the loader looks."""
+    """The library's file: the named one, that beside an installed module, the repository's, or the loader's."""
     named = os.environ.get("JORUMRAIN_LIBRARY")
     if named:
         return os.path.abspath(named)
@@ -391,78 +397,167 @@ def range_below(n: int, es: int, left: int, right: int) -> bool:
 
 # ---- Columns and sheets
 
+# Memory is any buffer of unsigned 64-bit words in a row: an array('Q'), an array of NumPy's uint64, a memoryview.
+Column = Union["Buffer", Iterable[int]]
+Lent = Union["Buffer", List[int]]
+Steps = Iterable[Union[int, Tuple[int, ...]]]
+File = Union[str, "os.PathLike[str]", Iterable[int]]
 
-def columns_combine(n: int, es: int, operation: int, left, right, row: int, lent) -> int:
+
+def columns_combine(
+    n: int, es: int, operation: int, left: Column, right: Column, row: int, lent: Lent
+) -> int:
     """One operation on two columns, pair by pair: answer i goes to lent[row + i]; the count of answers comes back.
 
-    A column is an array('Q') or a list of ints. An array is worked in place, with no copy of any word,
-    so that a full column costs what the inner call costs, to within a few percent; a list is copied
-    into an array first, and a lent list takes its new words after the call. All other words of the
-    lent column stay. An input that is also the lent column is copied, so that it is read as it was.
+    A column is any memory of unsigned 64-bit words in a row, such as an array('Q') or an array of
+    NumPy's uint64, or a list of ints. Such memory is worked in place, with no copy of any word, so that
+    a full column costs what the inner call costs, to within a few percent; a list, and memory that may
+    only be read, is copied first, and a lent list takes its new words after the call. All other words
+    of the lent column stay. An input that shares memory with the lent column is copied, so that it is
+    read as it was.
 
     Refused, with the lent column as it was: 1; 2; 7; 9; then, with the pair as place, 3 and 4 for its
     left, 3 and 4 for its right, and 5.
     """
-    words, left, right = _lent(lent), _column(left, lent), _column(right, lent)
-    answer = _columns_combine(
-        n, es, operation, *_slice(left), *_slice(right), row, *_slice(words)
-    )
-    return _handed_back(lent, words, row, answer.count)
+    memory, left, right = _lent(lent), _column(left, lent), _column(right, lent)
+    try:
+        answer = _columns_combine(
+            n, es, operation, *_slice(left), *_slice(right), row, *_slice(memory)
+        )
+    except Refused as refusal:
+        if refusal.number == Number.WRONG_LENGTH:
+            refusal.lengths = _lengths_of_columns(len(left), len(right))
+        raise
+    return _handed_back(lent, memory, row, answer.count)
 
 
-def sheet_work(n: int, es: int, inputs, steps: bytes, lent) -> int:
+def sheet_work(n: int, es: int, inputs: Column, steps: Steps, lent: Lent) -> int:
     """A sheet worked: its rows, the inputs first, go to the first words of lent; the count of rows comes back.
 
-    A step is three bytes, or ints in a list: an operation and two earlier rows; it adds a row. Inputs
-    and the lent column are each an array('Q'), worked in place, or a list, which is copied, as for
-    `columns_combine`. The words of the lent column after the rows stay.
+    A step is an operation and two earlier rows, and adds a row. Steps come as tuples, or as their
+    bytes, STEP_BYTES to a step. Inputs and the lent column are each memory, worked in place, or a
+    list, which is copied, as for `columns_combine`. The words of the lent column after the rows stay.
 
     Refused, with the lent column as it was: 1; 7; 9; then, with the row as place, 3 and 4 for an
     input, and 2, 8 and 5 for a step.
     """
-    words, inputs, steps = _lent(lent), _column(inputs, lent), bytes(iter(steps))
-    answer = _sheet_work(n, es, *_slice(inputs), steps, len(steps), *_slice(words))
-    return _handed_back(lent, words, 0, answer.count)
+    memory, inputs, steps = _lent(lent), _column(inputs, lent), _bytes_of_steps(steps)
+    try:
+        answer = _sheet_work(n, es, *_slice(inputs), steps, len(steps), *_slice(memory))
+    except Refused as refusal:
+        if refusal.number == Number.WRONG_LENGTH:
+            refusal.lengths = _lengths_of_sheet(len(inputs), len(steps))
+        raise
+    return _handed_back(lent, memory, 0, answer.count)
 
 
-def file_work(file: bytes, lent) -> int:
+def file_work(file: File, lent: Lent) -> int:
     """The sheet of a sheet file worked; lent column and count as for `sheet_work`, n and es stand in the file.
+
+    The file is its path, as a str or a pathlib.Path, or its bytes.
 
     Refused, with the lent column as it was: 10 for under 9 bytes, the mark or the version; 1; 7; 10 for
     the length; 9; then, with the row as place, 3 and 4 for an input, and 2, 8 and 5 for a step.
     """
-    words, file = _lent(lent), bytes(iter(file))
-    answer = _file_work(file, len(file), *_slice(words))
-    return _handed_back(lent, words, 0, answer.count)
+    memory, file = _lent(lent), _bytes_of_file(file)
+    try:
+        answer = _file_work(file, len(file), *_slice(memory))
+    except Refused as refusal:
+        if refusal.number == Number.WRONG_LENGTH:
+            refusal.lengths = _lengths_of_sheet(file[_INPUTS_AT], STEP_BYTES * file[_STEPS_AT])
+        raise
+    return _handed_back(lent, memory, 0, answer.count)
+
+
+# Where a file has its counts of inputs and of steps, and one byte more than the longest file has.
+_INPUTS_AT, _STEPS_AT = 7, 8
+_ENOUGH = 9 + 8 * MOST_INPUTS + STEP_BYTES * MOST_STEPS + 1
+
+
+def _bytes_of_file(file):
+    """The bytes of a file, which comes by its path or as they are; of too long a file, enough to show it."""
+    if isinstance(file, (str, os.PathLike)):
+        with open(file, "rb") as opened:
+            return opened.read(_ENOUGH)
+    return bytes(iter(file))
+
+
+def _bytes_of_steps(steps):
+    """The bytes of steps that come as tuples or as their bytes."""
+    fields = []
+    for step in steps:
+        if isinstance(step, (tuple, list)):
+            if len(step) != STEP_BYTES:
+                raise ValueError(f"a step has {STEP_BYTES} fields, an operation and its rows: {step}")
+            fields.extend(step)
+        else:
+            fields.append(step)
+    return bytes(fields)
+
+
+def _lengths_of_columns(left, right):
+    """What is wrong with two columns' lengths."""
+    if left != right:
+        return f"{left} and {right} rows"
+    return f"{left} rows, at most {LONGEST_COLUMN}"
+
+
+def _lengths_of_sheet(inputs, step_bytes):
+    """What is wrong with the lengths of a sheet."""
+    steps, left_over = divmod(step_bytes, STEP_BYTES)
+    wrong = []
+    if inputs > MOST_INPUTS:
+        wrong.append(f"{inputs} inputs, at most {MOST_INPUTS}")
+    if steps > MOST_STEPS:
+        wrong.append(f"{steps} steps, at most {MOST_STEPS}")
+    if left_over:
+        wrong.append(f"{step_bytes} bytes of steps, {STEP_BYTES} to a step")
+    return "; ".join(wrong)
 
 
 def _lent(lent):
-    """A lent array itself, or a copy of a lent list."""
+    """Lent memory itself, or a copy of a lent list."""
     if isinstance(lent, list):
         return array("Q", lent)
-    if _is_words(lent):
+    if _is_memory(lent):
         return lent
-    raise TypeError("a lent column is an array('Q') or a list")
+    raise TypeError("a lent column is a list, or unsigned 64-bit words that may be written, as in an array('Q')")
 
 
 def _column(column, lent):
-    """An array itself, or a copy of anything else and of the lent column, since lent memory must lie apart."""
-    if _is_words(column) and column is not lent:
+    """Memory itself, or a copy of anything else and of what lies in the lent column, which must lie apart."""
+    if _is_memory(column) and not _share(column, lent):
         return column
     return array("Q", list(column))
 
 
-def _is_words(column):
-    return isinstance(column, array) and column.typecode == "Q"
+def _is_memory(column):
+    """Whether a column is unsigned 64-bit words in a row that may be written; ctypes copies all other memory."""
+    try:
+        view = memoryview(column)
+    except TypeError:
+        return False
+    # ctypes and NumPy call such a word L where C's long has 64 bits, and may say that its low byte comes first.
+    words = view.itemsize == 8 and view.format.lstrip("@=<") in ("Q", "L")
+    return words and view.ndim == 1 and view.c_contiguous and not view.readonly
 
 
-def _slice(words):
-    """An array's memory and length, held so that the array cannot move while the call runs."""
-    return (ctypes.c_uint64 * len(words)).from_buffer(words), len(words)
+def _share(column, lent):
+    """Whether two columns have a byte in common."""
+    if not _is_memory(lent):
+        return False
+    (one, _), (other, _) = _slice(column), _slice(lent)
+    start, other_start = ctypes.addressof(one), ctypes.addressof(other)
+    return start < other_start + ctypes.sizeof(other) and other_start < start + ctypes.sizeof(one)
 
 
-def _handed_back(lent, words, row, count):
+def _slice(memory):
+    """A column's memory and length, held so that it cannot move while the call runs."""
+    return (ctypes.c_uint64 * len(memory)).from_buffer(memory), len(memory)
+
+
+def _handed_back(lent, memory, row, count):
     """The count, once the words written are in a lent list too."""
-    if words is not lent:
-        lent[row : row + count] = words[row : row + count]
+    if memory is not lent:
+        lent[row : row + count] = memory[row : row + count]
     return count
