@@ -31,16 +31,33 @@ pub fn every() -> Outcome {
     }
     let mut tally = Tally::default();
     let mut random = Random::new();
-    for (n, es) in formats::all() {
-        for _ in 0..PER_FORMAT {
-            let (inputs, steps) = sheets::picked(&mut random, n);
-            hold(&mut tally, &bytes(n, es, &inputs, &steps))?;
-        }
+    for file in generated(&mut random) {
+        hold(&mut tally, &file)?;
     }
     heads(&mut tally)?;
     lengths(&mut tally)?;
     scrambled(&mut tally, &mut random)?;
     tally.with_every(&OF_FILES)
+}
+
+/// Files at random, so many of each format.
+fn generated(random: &mut Random) -> Vec<Vec<u8>> {
+    let mut files = Vec::new();
+    for (n, es) in formats::all() {
+        for _ in 0..PER_FORMAT {
+            let (inputs, steps) = sheets::picked(random, n);
+            files.push(bytes(n, es, &inputs, &steps));
+        }
+    }
+    files
+}
+
+/// The generated files in hexadecimal, a line each, for tests of programs that read them.
+pub fn print_generated() {
+    for file in generated(&mut Random::new()) {
+        let digits: String = file.iter().map(|byte| format!("{byte:02x}")).collect();
+        println!("{digits}");
+    }
 }
 
 /// Each byte of a good file's head replaced by each other one.
