@@ -73,14 +73,24 @@ def choose(random, ranges, fixed, near_ends):
 
 
 def inside(random, span):
-    """Any member: now and then 0, else at a part of the whole range, or at a part of the way between two posits."""
+    """Any member: now and then 0, else a simple part of the whole range, or a part of the way between two posits."""
     if span.holds(0) and random.randrange(ZERO_IN) == 0:
         return Fraction(0)
     if span.is_point:
         return span.low
-    if span.start is None or span.end is None or random.randrange(2):
+    if random.randrange(2):
         return _between_posits(random, span)
+    if span.start is None or span.end is None:
+        return _some_way_in(random, span.low, span.high)
     return _part(random, span.low, span.high, span.start_open, span.end_open)
+
+
+def _some_way_in(random, low, high):
+    """A short fraction away from the only bound, or from 0 where there is none."""
+    way = Fraction(random.randrange(1, MOST_PARTS**2), random.randrange(1, MOST_PARTS + 1))
+    if low is not None:
+        return low + way
+    return high - way if high is not None else random.choice((-1, 1)) * way
 
 
 def _part(random, low, high, low_open, high_open):

@@ -18,7 +18,9 @@ BESIDE_PART = 8
 # The most posits that are shown; of more, every second, fourth and so on.
 MOST_TICKS = 48
 
+# Columns of a line in text, and those beyond each of its edges.
 COLUMNS = 49
+EDGE = 3
 
 
 class Line(NamedTuple):
@@ -65,10 +67,10 @@ def drawn(span, mark=None):
     low, high = line.ticks[0], line.ticks[-1]
 
     def column(at):
-        return round((at - low) * Fraction(COLUMNS - 1, high - low))
+        return EDGE + round((at - low) * Fraction(COLUMNS - 1, high - low))
 
     start, end = (column(index) for index in _ends(line))
-    signs = ["-"] * COLUMNS
+    signs = ["-"] * (COLUMNS + 2 * EDGE)
     signs[start : end + 1] = ["="] * (end + 1 - start)
     if 2 * (high - low) < COLUMNS:
         for index in line.ticks:
@@ -76,31 +78,38 @@ def drawn(span, mark=None):
     _bracket(signs, span, start, end)
     if mark is not None:
         signs[_inside(span, column(line.at(mark)), start, end, mark)] = "*"
-    edges = "--" if span.start is not None else "<=", "--" if span.end is not None else "=>"
     value = span.format.value
-    return written(value(low)), edges[0] + "".join(signs) + edges[1], written(value(high))
+    left = "-inf" if span.start is None else written(value(low))
+    return left, "".join(signs), "inf" if span.end is None else written(value(high))
 
 
 def _ends(line):
-    """The indexes that a range is drawn between; without a bound it is drawn up to the edge."""
+    """The indexes that a range is drawn between; without a bound it is drawn on beyond the last posit."""
     span = line.range
     start = line.ticks[0] if span.start is None else span.start
     return start, line.ticks[-1] if span.end is None else span.end
 
 
 def _bracket(signs, span, start, end):
+    """The ends of the range on the line: brackets, one bar for a single number, arrows where there is no bound."""
     if span.is_point:
         signs[start] = "|"
         return
     if span.start is not None:
         signs[start] = "[("[span.start_open]
+    else:
+        signs[:EDGE] = ["<", *"=" * (EDGE - 1)]
     if span.end is not None:
         signs[end] = "])"[span.end_open]
+    else:
+        signs[-EDGE:] = [*"=" * (EDGE - 1), ">"]
 
 
 def _inside(span, column, start, end, mark):
-    """The mark's column, kept off the brackets where the number is not the end itself and there is room."""
-    column = min(max(column, 0), COLUMNS - 1)
+    """The mark's column: beyond the last posit where it lies there, and off a bracket unless it is that end itself."""
+    form = span.format
+    if abs(mark) > form.maxpos:
+        return EDGE + COLUMNS if mark > 0 else EDGE - 1
     if column == start and span.low != mark and start + 1 < end:
         return column + 1
     if column == end and span.high != mark and start + 1 < end:

@@ -6,8 +6,10 @@ from math import ceil, floor
 from training import exact
 from training.columns import aligned
 from training.exact import Missing
-from training.numbers import shortened
 from training.verdict import hold
+
+# From here on a power of two says enough.
+LONG = 10**4
 
 
 class Seen:
@@ -59,20 +61,27 @@ def closeness(span, seen):
         return "-", "-"
     low, high = span.low, span.high
     width = None if low is None or high is None else high - low
-    start = _beyond("down to", ceil(seen.least)) if low is None else _near(seen.least - low, width)
-    end = _beyond("up to", floor(seen.greatest)) if high is None else _near(high - seen.greatest, width)
+    start = _out(ceil(seen.least)) if low is None else _near(seen.least - low, width)
+    end = _out(floor(seen.greatest)) if high is None else _near(high - seen.greatest, width)
     return start, end
 
 
-def _beyond(words, whole):
-    """How far out the values went where there is no bound, in whole numbers."""
-    return f"{words} {shortened(whole)} and beyond"
+def _out(whole):
+    """How far out the values went where there is no bound."""
+    return f"out to {'-' if whole < 0 else ''}{_rough(abs(whole))} at least"
 
 
 def _near(gap, width):
-    """How far the nearest value is from an end, as one part of the width, or of 1 where there is no width."""
+    """How far the nearest value is from an end, as a part of the width, or of 1 where there is no width."""
     if gap == 0:
         return "reached"
     if width is not None:
-        return f"within 1/{shortened(floor(width / gap))} of the width"
-    return f"within 1/{shortened(floor(1 / gap))}" if gap <= 1 else f"within {shortened(ceil(gap))}"
+        return f"within 1/{_rough(floor(width / gap))} of the width"
+    if gap <= 1:
+        return f"within 1/{_rough(floor(1 / gap))}"
+    return f"within {_rough(ceil(gap), up=1)}"
+
+
+def _rough(whole, up=0):
+    """A whole number, or where it is long the power of two below it, or the one above."""
+    return str(whole) if whole < LONG else f"2^{whole.bit_length() - 1 + up}"

@@ -7,7 +7,7 @@ from training.line import drawn
 from training.numbers import written
 
 NO_ROWS = "the sheet has no rows\n"
-LEGEND = "on the lines: [ ] the end is in, ( ) it is not, | one number alone, + a posit, <= and => no bound\n"
+LEGEND = "on the lines: [ ] the end is in, ( ) it is not, | one number alone, + a posit, < and > no bound\n"
 
 
 def run(options):
