@@ -1,6 +1,7 @@
 """What each command is called with, and its help."""
 
 import argparse
+import functools
 
 ABOUT = """\
 Writes a sheet, shows its ranges and works one back, in exact fractions.
@@ -38,6 +39,7 @@ beside it, unless ~ stands before the range.
 """
 
 
+@functools.cache
 def parser(command):
     """The reader of one command's words."""
     words, describe = COMMANDS[command]

@@ -50,7 +50,7 @@ def as_text(data, title):
 
 def is_text(data):
     """Whether bytes look like a sheet's text: a sheet file begins with its mark or holds bytes that no text has."""
-    if not data or data.startswith(file.MARK):
+    if file.MARK.startswith(data[:3]):
         return False
     try:
         characters = data.decode("utf-8-sig")
