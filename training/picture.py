@@ -18,6 +18,9 @@ LABELS, EDGE_LABELS = BASE + 21, BASE + 36
 # About what a digit of a label takes, to keep labels inside the drawing.
 DIGIT = 7.5
 
+# How far from the edges of the drawing a label for 0 has room.
+ZERO_ROOM = 150
+
 # The longest number that is written over its pointer, and the room that it takes.
 LABEL, LABEL_ROOM = 20, 80
 
@@ -83,17 +86,24 @@ def _dot(x, is_open, which):
 
 
 def _labels(line, span):
-    """The numbers at the ends of the range, and lower down those at the edges of the line."""
+    """The numbers at the ends of the range, and lower down those at the edges of the line and 0."""
     value = span.format.value
     texts = [(across(line, index), written(value(index))) for index in _bounds(span)]
     room = texts[-1][0] - texts[0][0] if len(texts) == 2 else WIDTH
     crowded = room < DIGIT * max((len(text) for _, text in texts), default=0) + 2 * DIGIT
     for (x, text), outward in zip(texts, ("end", "start")):
         yield _label("number", x, LABELS, text, _kept(x, text, outward if crowded else "middle"))
-    for x, index in ((EDGE, line.ticks[0]), (WIDTH - EDGE, line.ticks[-1])):
-        text = written(value(index))
-        if index not in _bounds(span):
-            yield _label("edge", x, EDGE_LABELS, text, _kept(x, text, "middle"))
+    for index in _others(line):
+        x, text = across(line, index), written(value(index))
+        yield _label("edge", x, EDGE_LABELS, text, _kept(x, text, "middle"))
+
+
+def _others(line):
+    """The edges of the line, and 0 where it stands well between them; the ends of the range have their own labels."""
+    low, high = line.ticks[0], line.ticks[-1]
+    with_zero = low < 0 < high and ZERO_ROOM < across(line, 0) < WIDTH - ZERO_ROOM
+    found = (low, 0, high) if with_zero else (low, high)
+    return [index for index in found if index not in _bounds(line.range)]
 
 
 def _bounds(span):

@@ -9,7 +9,7 @@ from room import Room, accepted, generated, sheet, verdict
 FEWEST_SHEETS = 4000
 FEWEST_VALUES = 100_000
 
-CHOICES = 3
+CHOICES = 2
 
 
 class Generated(Room):
