@@ -68,7 +68,7 @@ def _back(made):
     made.add_argument("choices", metavar="a=3/4", nargs="*", help="the member to take for an input, by name or row")
     made.add_argument("--seed", type=int, metavar="N", help="make the same choice again")
     made.add_argument("--ends", action="store_true", help="pick at or close to the ends")
-    made.add_argument("--many", type=_count, metavar="N", help="work N choices, and say how close values came to the ends")
+    made.add_argument("--many", type=_count, metavar="N", help="work N choices; say how close values came to the ends")
     made.add_argument("--full", action="store_true", help="print long fractions whole")
     made.add_argument("--lines", action="store_true", help="draw each number line with the value as a star")
 

@@ -1,7 +1,7 @@
 """The sheet file: its bytes written and read, and its rows worked by the library, refusals in words."""
 
 from training.library import jorumrain
-from training.outcome import Refusal, Trouble
+from training.outcome import Trouble
 from training.posits import Format
 from training.sheets import Sheet, Step, plain_names
 
@@ -9,6 +9,7 @@ MARK = b"RSH"
 VERSION = 1
 HEAD = 9
 WORD_BYTES = 8
+STEP_BYTES = 3
 MOST_ROWS = jorumrain.MOST_INPUTS + jorumrain.MOST_STEPS
 
 # The refusals that speak of the file as a whole; all others name a row of it.
@@ -33,13 +34,12 @@ def read(data):
     if version != VERSION:
         raise Trouble(f"this command reads version {VERSION} of the sheet file, not {version}")
     n, es, inputs, steps = data[5:HEAD]
-    steps_at = HEAD + inputs * WORD_BYTES
-    step = jorumrain.STEP_BYTES
     words = _pieces(data, HEAD, inputs, WORD_BYTES)
+    triples = _pieces(data, HEAD + inputs * WORD_BYTES, steps, STEP_BYTES)
     return Sheet(
         Format(n, es),
         tuple(int.from_bytes(word, "little") for word in words),
-        tuple(Step(*piece) for piece in _pieces(data, steps_at, steps, step)),
+        tuple(Step(*triple) for triple in triples),
         plain_names(inputs, steps),
     )
 
@@ -52,14 +52,6 @@ def worked(data):
     """The words of all rows; raises the binding's Refused."""
     lent = [0] * MOST_ROWS
     return lent[: jorumrain.file_work(data, lent)]
-
-
-def rows(data, sheet=None):
-    """The words of all rows, or a refusal in words that names the row; the sheet gives the rows their names."""
-    try:
-        return worked(data)
-    except jorumrain.Refused as refused:
-        raise Refusal(in_words(data, refused, sheet)) from None
 
 
 def in_words(data, refused, sheet=None):
@@ -85,5 +77,5 @@ def _detail(data, number):
         return " (it does not begin with RSH)"
     if int.from_bytes(data[3:5], "little") != VERSION:
         return f" (its version is {int.from_bytes(data[3:5], 'little')})"
-    length = HEAD + data[7] * WORD_BYTES + data[8] * jorumrain.STEP_BYTES
+    length = HEAD + data[7] * WORD_BYTES + data[8] * STEP_BYTES
     return f" (it has {len(data)} bytes; {data[7]} inputs and {data[8]} steps take {length})"

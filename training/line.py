@@ -30,7 +30,7 @@ class Line(NamedTuple):
     ticks: tuple
 
     def at(self, x):
-        """Where x stands: the index of a posit shown, or between two; half a step beyond the last one for all beyond."""
+        """Where x stands: the index of a posit shown, or between two; for all beyond half a step past the last."""
         value = self.range.format.value
         after = bisect_right(self.ticks, x, key=value)
         if after == 0:

@@ -1,5 +1,6 @@
 """The command `sheet`: finds the command that is meant, runs it, and puts how it ended in words."""
 
+import contextlib
 import importlib
 import signal
 import sys
@@ -21,6 +22,8 @@ def main(words):
 
 
 def _run(words):
+    if sys.stdout is None:
+        raise Trouble("standard output is closed")
     if not words or words[0] in ("-h", "--help", "help"):
         (sys.stdout if words else sys.stderr).write(f"{arguments.ABOUT}\n{arguments.STATUS}")
         return 0 if words else Trouble.status
@@ -38,5 +41,8 @@ def _run(words):
 
 
 def _tell(words):
-    sys.stdout.flush()
-    sys.stderr.write(f"sheet: {words}\n")
+    """Words on standard error, after all that was printed before; where these are closed there is no more to do."""
+    for stream, text in ((sys.stdout, ""), (sys.stderr, f"sheet: {words}\n")):
+        with contextlib.suppress(AttributeError, OSError):
+            stream.write(text)
+            stream.flush()

@@ -1,4 +1,4 @@
-"""sheet page: one page that holds a sheet, its number lines and the script that works new choices; nothing is fetched."""
+"""sheet page: one page with a sheet, its number lines and the script that works new choices; it fetches nothing."""
 
 import json
 import pathlib

@@ -1,4 +1,4 @@
-"""A row's number line as a drawing (SVG): posits as ticks, the range, its filled and hollow ends, and a mark for the value."""
+"""A row's number line as a drawing (SVG): posits as ticks, the range with filled and hollow ends, and the value."""
 
 from fractions import Fraction
 from html import escape
@@ -61,9 +61,10 @@ def drawing(row, span, words, value):
 
 def _tick(line, index):
     form = line.range.format
-    x = across(line, index)
+    x = f"{across(line, index):.2f}"
     title = f"{written(form.value(index))} (posit {form.digits(index)})"
-    return f'<line class="tick" x1="{x:.2f}" y1="{BASE - TICK}" x2="{x:.2f}" y2="{BASE + TICK}"><title>{title}</title></line>'
+    ends = f'x1="{x}" y1="{BASE - TICK}" x2="{x}" y2="{BASE + TICK}"'
+    return f'<line class="tick" {ends}><title>{title}</title></line>'
 
 
 def _stretch(line, span):

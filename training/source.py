@@ -27,6 +27,8 @@ class Worked(NamedTuple):
 def content(path):
     """The bytes of a file, or of standard input for a single dash, and what to call it."""
     title = "standard input" if path == "-" else path
+    if path == "-" and sys.stdin is None:
+        raise Trouble(f"{title} is closed")
     try:
         stream = sys.stdin.buffer if path == "-" else pathlib.Path(path).open("rb")
         with stream:
@@ -76,14 +78,15 @@ def worked(path):
     if is_text(data):
         sheet, _, words = made(data, title)
     else:
-        words = _rows(data, title)
+        words = _words(data, title)
         sheet = file.read(data)
     ranges = tuple(of_word(sheet.format, word) for word in words)
     return Worked(title, sheet, ranges)
 
 
-def _rows(data, title):
+def _words(data, title):
+    """The words of a sheet file's rows."""
     try:
-        return file.rows(data)
-    except Refusal as refusal:
-        raise Refusal(f"{title}: {refusal}") from None
+        return file.worked(data)
+    except jorumrain.Refused as refused:
+        raise Refusal(f"{title}: {file.in_words(data, refused)}") from None

@@ -1,4 +1,4 @@
-"""Rounding outward by the library: a range between any two fractions becomes the smallest of the format that holds it."""
+"""Rounding outward by the library: a range between any two fractions becomes the smallest that holds it."""
 
 from training.library import jorumrain
 from training.ranges import of_word

@@ -19,8 +19,9 @@ def program():
     if shutil.which("chromium") is None:
         print("installing chromium")
         quiet = {"env": {**os.environ, "DEBIAN_FRONTEND": "noninteractive"}, "stdout": subprocess.DEVNULL}
-        subprocess.run(["apt-get", "update"], check=True, **quiet)
-        subprocess.run(["apt-get", "install", "--yes", "--no-install-recommends", "chromium", "fonts-dejavu-core"], check=True, **quiet)
+        install = ["install", "--yes", "--no-install-recommends", "chromium", "fonts-dejavu-core"]
+        for words in (["update"], install):
+            subprocess.run(["apt-get", *words], check=True, **quiet)
     return shutil.which("chromium")
 
 

@@ -1,4 +1,4 @@
-"""Working back: choices that are given and refused, rows without a value, and the one exit status that must never come."""
+"""Working back: choices given and refused, rows without a value, and the exit status that must never come."""
 
 import re
 import unittest

@@ -1,10 +1,14 @@
-"""The command as people run it, in a process of its own from another folder: help, exit statuses and trouble in words."""
+"""The command as people run it, from another folder: help, exit statuses and trouble in words."""
 
 import os
 import subprocess
 import unittest
 
 from room import EXAMPLES, ROOT, Room, sheet
+from training import exact, file
+from training.outcome import Trouble
+from training.posits import Format
+from training.sheets import Sheet, Step
 
 COMMANDS = ("make", "show", "rows", "back", "page")
 
@@ -54,11 +58,27 @@ class Command(Room):
             self.assertEqual(ended.stderr.count(b"\n"), 1)
 
     def test_a_full_disk(self):
+        command = [ROOT / "sheet", "rows", EXAMPLES / "first.rsh"]
         with open("/dev/full", "wb") as full:
-            ended = subprocess.run([ROOT / "sheet", "rows", EXAMPLES / "first.rsh"], stdout=full, stderr=subprocess.PIPE)
+            ended = subprocess.run(command, stdout=full, stderr=subprocess.PIPE)
         self.assertEqual(ended.returncode, 2)
         self.assertIn(b"cannot be written", ended.stderr)
         self.assertNotIn(b"Traceback", ended.stderr)
+
+    def test_closed_streams(self):
+        first = EXAMPLES / "first.rsh"
+        for stream, words, status in ((0, ("rows", "-"), 2), (1, ("rows", first), 2), (2, ("rows", "nowhere"), 2)):
+            ended = self.run_sheet(*words, preexec_fn=lambda: os.close(stream))
+            self.assertEqual(ended.returncode, status)
+            self.assertNotIn(b"Traceback", ended.stderr)
+
+    def test_versions_and_operations_to_come(self):
+        """What a later library may take and this command does not know is trouble in words."""
+        with self.assertRaisesRegex(Trouble, "version 1 of the sheet file, not 2"):
+            file.read(b"RSH\x02\x00\x08\x02\x00\x00")
+        made = Sheet(Format(8, 2), (0,), (Step(200, 0, 0),), ("a", "r1"))
+        with self.assertRaisesRegex(Trouble, "does not know operation 200"):
+            exact.work(made, [1])
 
     def test_a_large_file(self):
         self.refused(sheet("rows", self.put(b"RSH" + bytes(2 * 10**6))), "more than 1000000 bytes")

@@ -1,4 +1,4 @@
-"""The generated sheet files: each that is accepted comes back from its text byte by byte, and every value lies in its row."""
+"""The generated sheet files: each accepted one comes back from its text, and every value lies in its row."""
 
 import re
 import unittest
@@ -59,7 +59,14 @@ class Generated(Room):
                 numbers[number] += 1
                 for command in ("rows", "back", "page"):
                     self.refused(sheet(command, "-", given=data), f"refused {number:d}", number.words)
+                self.shown_all_the_same(number, sheet("show", "-", given=data))
         self.assertGreater(len(numbers), 4)
+
+    def shown_all_the_same(self, number, ended):
+        """A sheet that is refused for one of its rows is shown before the words, any other is not."""
+        self.assertEqual(ended.status, 1)
+        self.assertIn(f"refused {number:d}", ended.words)
+        self.assertEqual(ended.data.startswith(b"format "), " at row " in ended.words)
 
 
 if __name__ == "__main__":

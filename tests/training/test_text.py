@@ -61,8 +61,8 @@ class Inputs(unittest.TestCase):
             low, high = sorted(self.number(pick, form) for _ in range(2))
             span = notation.read(form, f"~[{low}, {high}]")
             self.assertTrue(span.holds(low) and span.holds(high))
-            for x, index, is_open, beyond in ((low, span.start, span.start_open, 1), (high, span.end, span.end_open, -1)):
-                self.smallest(form, x, index, is_open, beyond)
+            self.smallest(form, low, span.start, span.start_open, 1)
+            self.smallest(form, high, span.end, span.end_open, -1)
 
     def number(self, pick, form):
         posit = form.value(pick.randrange(-form.largest, form.largest + 1))
