@@ -13,7 +13,7 @@ LEGEND = "on the lines: [ ] the end is in, ( ) it is not, | one number alone, + 
 def run(options):
     found = source.worked(options.file)
     sheet = found.sheet
-    lines = [f"format {sheet.format}: posits of {sheet.format.n} bits with {sheet.format.es} exponent bits\n"]
+    lines = [f"format {sheet.format}: width {sheet.format.n}, exponent size {sheet.format.es}\n"]
     for row, span in enumerate(found.ranges):
         lines.append(f"\nrow {row}: {sheet.formula(row)}{', an input' if row < len(sheet.inputs) else ''}\n")
         lines += [f"    {line}\n" for line in described(span)]
