@@ -81,6 +81,25 @@ class Inputs(unittest.TestCase):
                 self.assertGreater(inward * (form.value(index + inward) - x), 0)
 
 
+class Members(unittest.TestCase):
+    def test_where_a_number_lies(self):
+        tiny = Fraction(1, 2**90)
+        half, whole = Fraction(1, 2), Fraction(1)
+        for text, start, end in (("[1/2, 1]", 0, 0), ("(1/2, 1]", -1, 0), ("[1/2, 1)", 0, 1), ("(1/2, 1)", -1, 1)):
+            span = notation.read(Format(8, 2), text)
+            self.assertEqual([span.side(half), span.side(whole)], [start, end], text)
+            self.assertEqual([span.side(half - tiny), span.side(half + tiny)], [-1, 0], text)
+            self.assertEqual([span.side(whole - tiny), span.side(whole + tiny)], [0, 1], text)
+
+    def test_unbounded_and_empty(self):
+        far = Fraction(2**900)
+        everything, up = (notation.read(Format(8, 2), text) for text in ("all", "(0, inf)"))
+        self.assertTrue(everything.holds(far) and everything.holds(-far) and everything.holds(0))
+        self.assertEqual([up.holds(far), up.holds(0), up.holds(-far)], [True, False, False])
+        for x in (Fraction(0), Fraction(1, 2), Fraction(1)):
+            self.assertFalse(notation.read(Format(8, 2), "(1/2, 1/2)").holds(x))
+
+
 class Refusals(Room):
     def text_refused(self, body, *parts):
         self.refused(sheet("make", self.put(body)), *parts)
