@@ -141,6 +141,8 @@ module _ (O : Order) (c : O.Number) where
     back_spans (nothing h) = nothing (λ z m. h m.source m.member)
     back_spans (exactly {s} {e} f g) =
         exactly
+        {s = start_back O c (map_bound (λ q. q.0) s)}
+        {e = map_bound (λ q. q.0) e}
         record {
           allowed = λ m. upward O (start_back O c (map_bound (λ q. q.0) s)) (start_down s m.source (f.allowed m.member)) m.value.1;
           reached = λ z h.

@@ -7,7 +7,7 @@ use word::answer::{Reply, WordAnswer};
 
 // A refusal's number and place, and a range word.
 #[repr(C)]
-#[derive(Drop)]
+#[derive(Clone, Copy)]
 pub struct RangeAnswer {
     pub number: u32,
     pub place: u32,
@@ -16,7 +16,7 @@ pub struct RangeAnswer {
 
 // A refusal's number and place, and a yes or no.
 #[repr(C)]
-#[derive(Drop)]
+#[derive(Clone, Copy)]
 pub struct RangeReply {
     pub number: u32,
     pub place: u32,
@@ -25,7 +25,7 @@ pub struct RangeReply {
 
 // A refusal's number and place, and a range as two floats with their open marks and an empty mark.
 #[repr(C)]
-#[derive(Drop)]
+#[derive(Clone, Copy)]
 pub struct RangeOutgoing {
     pub number: u32,
     pub place: u32,

@@ -11,7 +11,7 @@ use posit::to_float::Floating;
 
 // A refusal's number and place, and a posit.
 #[repr(C)]
-#[derive(Drop)]
+#[derive(Clone, Copy)]
 pub struct PositAnswer {
     pub number: u32,
     pub place: u32,
@@ -20,7 +20,7 @@ pub struct PositAnswer {
 
 // A refusal's number and place, and a decoded posit: its kind, and for a finite one its sign, scale and fraction.
 #[repr(C)]
-#[derive(Drop)]
+#[derive(Clone, Copy)]
 pub struct PositDecoding {
     pub number: u32,
     pub place: u32,
@@ -32,7 +32,7 @@ pub struct PositDecoding {
 
 // A refusal's number and place, and an order.
 #[repr(C)]
-#[derive(Drop)]
+#[derive(Clone, Copy)]
 pub struct PositComparison {
     pub number: u32,
     pub place: u32,
@@ -41,7 +41,7 @@ pub struct PositComparison {
 
 // A refusal's number and place, and a posit as a float: its kind, and the float where it is no NaR.
 #[repr(C)]
-#[derive(Drop)]
+#[derive(Clone, Copy)]
 pub struct PositFloating {
     pub number: u32,
     pub place: u32,

@@ -6,7 +6,7 @@ use call::counted::Counted;
 
 // A refusal's number and place, and the count of words written.
 #[repr(C)]
-#[derive(Drop)]
+#[derive(Clone, Copy)]
 pub struct SheetAnswer {
     pub number: u32,
     pub place: u32,

@@ -1,5 +1,5 @@
 // What a call that gives a posit comes back with.
-#[derive(Drop)]
+#[derive(Clone, Copy)]
 pub struct Answer {
     pub number: u32,
     pub place: u32,

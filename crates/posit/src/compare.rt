@@ -7,14 +7,14 @@ use super::inner::power::power32;
 use call::number::{DONE, OUTSIDE_LIMITS, TOO_LARGE};
 use call::place::{LEFT, RIGHT};
 
-#[derive(Drop)]
+#[derive(Clone, Copy)]
 pub enum Order {
     Less,
     Equal,
     Greater,
 }
 
-#[derive(Drop)]
+#[derive(Clone, Copy)]
 pub struct Comparison {
     pub number: u32,
     pub place: u32,

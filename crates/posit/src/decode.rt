@@ -8,7 +8,7 @@ use super::inner::unpack::unpack;
 use call::number::{DONE, OUTSIDE_LIMITS, TOO_LARGE};
 use call::place::LEFT;
 
-#[derive(Drop)]
+#[derive(Clone, Copy)]
 pub struct Decoding {
     pub number: u32,
     pub place: u32,

@@ -1,5 +1,5 @@
 // A decoded posit: zero, NaR, or a finite number that means sign · fraction · 2^scale.
-#[derive(Drop)]
+#[derive(Clone, Copy)]
 pub enum Decoded {
     Zero,
     Nar,

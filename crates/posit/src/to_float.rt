@@ -12,7 +12,7 @@ use super::inner::unpack::unpack;
 use call::number::{DONE, OUTSIDE_LIMITS, TOO_LARGE};
 use call::place::LEFT;
 
-#[derive(Drop)]
+#[derive(Clone, Copy)]
 pub struct Floating {
     pub number: u32,
     pub place: u32,

@@ -14,13 +14,13 @@ use word::inner::judge::judge_range;
 use word::inner::span::{Span, top_cell, word_of};
 use word::inner::word::{cells_of, end_tile, start_tile};
 
-#[derive(Drop)]
+#[derive(Clone, Copy)]
 pub struct Reading {
     pub low: f64,
     pub high: f64,
 }
 
-#[derive(Drop)]
+#[derive(Clone, Copy)]
 pub struct Outgoing {
     pub number: u32,
     pub place: u32,

@@ -1,5 +1,5 @@
 // What calls on ranges come back with.
-#[derive(Drop)]
+#[derive(Clone, Copy)]
 pub struct WordAnswer {
     pub number: u32,
     pub place: u32,
@@ -7,7 +7,7 @@ pub struct WordAnswer {
 }
 
 // A yes or no.
-#[derive(Drop)]
+#[derive(Clone, Copy)]
 pub struct Reply {
     pub number: u32,
     pub place: u32,

@@ -8,7 +8,7 @@ use posit::inner::choose::chosen;
 use posit::inner::power::{negated, power32};
 
 // The size is its code.
-#[derive(Drop)]
+#[derive(Clone, Copy)]
 pub struct Signed {
     pub negative: bool,
     pub size: u64,

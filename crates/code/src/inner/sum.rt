@@ -11,7 +11,7 @@ use super::form::SIGN;
 use super::raised::raised;
 
 // A sum: zero, or a sign and what is known of its size.
-#[derive(Drop)]
+#[derive(Clone, Copy)]
 pub enum SignedSum {
     Nothing,
     Something { negative: bool, size: u64 },

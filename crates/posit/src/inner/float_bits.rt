@@ -27,7 +27,7 @@ const SPARE_BITS: u64 = 16;
 const SPARE: u64 = 0x1_0000;
 
 // What the bits of a float that is no NaN say: an infinity, 0, or digits · 2^shift of the smallest float above 0, with a sign.
-#[derive(Drop)]
+#[derive(Clone, Copy)]
 pub enum FloatParts {
     Infinite,
     Nothing,

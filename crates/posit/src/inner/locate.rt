@@ -8,7 +8,7 @@ use super::choose::chosen;
 use super::power::{highest_bit, power, power32};
 
 // The largest pattern whose value is at most the magnitude, and whether it is the magnitude.
-#[derive(Drop)]
+#[derive(Clone, Copy)]
 pub struct Located {
     pub pattern: u32,
     pub exact: bool,

@@ -9,7 +9,7 @@ use super::locate::locate;
 use super::round::{rounded, with_sign};
 
 // From g · 2^s / 2^a to below (g + 1) · 2^s / 2^a; on the lower end itself unless something was lost below.
-#[derive(Drop)]
+#[derive(Clone, Copy)]
 pub struct Magnitude {
     pub g: u64,
     pub s: u64,

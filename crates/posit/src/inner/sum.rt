@@ -6,7 +6,7 @@ use super::magnitude::Magnitude;
 use super::wide::{Wide, narrowed, wide_difference, wide_less, wide_sum, widened};
 
 // A sum: zero, or a sign and a magnitude.
-#[derive(Drop)]
+#[derive(Clone, Copy)]
 pub enum Sum {
     Nothing,
     Something {

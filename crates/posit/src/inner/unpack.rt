@@ -10,7 +10,7 @@ use super::choose::chosen;
 use super::power::{highest_bit, negated, power32};
 
 // A magnitude in units of minPos: 2^scale · significand / 2^bits.
-#[derive(Drop)]
+#[derive(Clone, Copy)]
 pub struct Parts {
     pub scale: u32,
     pub bits: u32,

@@ -16,7 +16,7 @@ const SPARE_BITS: u64 = 16;
 const SPARE: u64 = 0x1_0000;
 
 // high · 2^64 + low.
-#[derive(Drop)]
+#[derive(Clone, Copy)]
 pub struct Wide {
     pub high: u64,
     pub low: u64,

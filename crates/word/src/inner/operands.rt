@@ -8,7 +8,7 @@ use call::place::{LEFT, RIGHT};
 use posit::inner::format::is_format;
 
 // The first refusal, or the cells of two real ranges.
-#[derive(Drop)]
+#[derive(Clone, Copy)]
 pub enum Operands {
     Refused { number: u32, place: u32 },
     Cells { left: Span, right: Span },

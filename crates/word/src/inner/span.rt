@@ -6,7 +6,7 @@ ghost use Rattle.word.specs.Spans.{top_cell, no_cells, mirrored, start_tile_at, 
 use posit::inner::power::{power, power32};
 
 // The cells from lo to hi; none where lo is above hi.
-#[derive(Drop)]
+#[derive(Clone, Copy)]
 pub struct Span {
     pub lo: u32,
     pub hi: u32,

@@ -24,7 +24,7 @@ pub fn end_tile(n: u32, w: u64) -> u32
 }
 
 // The number of a word's refusal, and the cells of its members where it is not refused.
-#[derive(Drop)]
+#[derive(Clone, Copy)]
 pub struct Taken {
     pub number: u32,
     pub cells: Span,

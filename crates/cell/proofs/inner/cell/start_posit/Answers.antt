@@ -1,0 +1,19 @@
+-- `cell::inner::cell::start_posit` meets its contract: it computes `patternAt` itself.
+use Prim.Native.Nat.{◌-◌, ◌/◌}
+use native.Mathlib.Omega.{arith}
+use borrow.Author.Rules.{rules}
+use lib.Pow.{pow_pos}
+use Rattle.cell.proofs.CellFrom.{posit_fits}
+use Rattle.cell.proofs.inner.cell.start_posit.Goals as goal
+
+pub overflow_add-result : goal.overflow_add-result
+overflow_add-result c = omega (arith, posit_fits ((c.args.cell - 1) / 2) c.requires.0 c.requires.1 (omega arith) c.power32.ensures)
+
+pub overflow_add-result-2 : goal.overflow_add-result-2
+overflow_add-result-2 c = omega (arith, posit_fits ((c.args.cell - 1) / 2) c.requires.0 c.requires.1 (omega arith) c.power32.ensures)
+
+pub nonzero_rem-result : goal.nonzero_rem-result
+nonzero_rem-result c = omega (arith, pow_pos c.args.n)
+
+pub returns : goal.returns
+returns c = rw (c.power32.ensures, c.power32-2.ensures)

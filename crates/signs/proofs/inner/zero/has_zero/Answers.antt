@@ -1,0 +1,8 @@
+-- `signs::inner::zero::has_zero` meets its contract: 0 is a member where its cell is one of the range's cells (`HasZero`).
+use mathlib.Core.Path.{◌∙◌}
+use borrow.Author.Rules.{rules}
+use Rattle.signs.proofs.HasZero.{zero_member}
+use Rattle.signs.proofs.inner.zero.has_zero.Goals as goal
+
+pub returns : goal.returns
+returns c = c.has_zero.ensures ∙ zero_member c.requires.0 c.requires.1 c.cells_of.ensures
