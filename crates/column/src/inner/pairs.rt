@@ -63,8 +63,8 @@ pub fn judge_pairs(n: u32, es: u32, op: u8, left: &[u64], right: &[u64]) -> Judg
 
 // The answers of pairs that were judged, written from the front.
 pub fn write_answers(n: u32, es: u32, op: u8, left: &[u64], right: &[u64], out: &mut [u64])
-    requires format { (Format n es) × (op ≤ 3) × (length left.now ≡ length right.now) × (length left.now ≤ length out.old) }
-    requires right_value { (first_hit (pairs_tests n es op 0 left.now right.now)).number ≡ 0 }
+    requires fits { (Format n es) × (op ≤ 3) × (length left.now ≡ length right.now) × (length left.now ≤ length out.old) }
+    requires passes { (first_hit (pairs_tests n es op 0 left.now right.now)).number ≡ 0 }
     ensures { out.new ≡ answers_of n es op left.now right.now ++ drop (length left.now) out.old }
 {
     let mut i: usize = 0;

@@ -57,8 +57,8 @@ pub fn plain_answer(n: u32, es: u32, op: u8, a: u64, b: u64) -> u64
 
 // The answers of such columns, written from the front.
 pub fn write_plain(n: u32, es: u32, op: u8, left: &[u64], right: &[u64], out: &mut [u64])
-    requires format { (Format n es) × (op ≤ 3) × (length left.now ≡ length right.now) × (length left.now ≤ length out.old) }
-    requires right_value { takes_plain_way n op left.now right.now ≡ true }
+    requires fits { (Format n es) × (op ≤ 3) × (length left.now ≡ length right.now) × (length left.now ≤ length out.old) }
+    requires plain { takes_plain_way n op left.now right.now ≡ true }
     ensures { out.new ≡ answers_of n es op left.now right.now ++ drop (length left.now) out.old }
 {
     let mut i: usize = 0;

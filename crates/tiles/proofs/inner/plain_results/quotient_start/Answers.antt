@@ -1,0 +1,32 @@
+-- `tiles::inner::plain_results::quotient_start` meets its contract: an open 0 where the dividend starts there, else the start over the end (`PlainResults`).
+use Rattle.std.proofs.Common.{true}
+use Rattle.tiles.proofs.PlainCells.{start_posit_fits, end_posit_fits}
+use Rattle.tiles.proofs.PlainResults.{start_edge_says, end_edge_says, zero_first, start_between, result_cell_above}
+use Rattle.tiles.proofs.inner.plain_results.quotient_start.Goals as goal
+
+pub returns-then-s-eq-OPEN_ZERO : goal.returns-then-s-eq-OPEN_ZERO
+returns-then-s-eq-OPEN_ZERO c =
+    let start = c.before in
+    zero_first start.args.n start.requires.0.wide_enough start.args.es true start.requires.1 c.if-s-eq-OPEN_ZERO.true _
+
+pub quotient_cell-requires : goal.quotient_cell-requires
+quotient_cell-requires c =
+    let start = c.before in
+    let p = start_posit_fits start.args.n start.requires.0.wide_enough start.requires.1 c.if-s-eq-OPEN_ZERO.false in
+    let q = end_posit_fits start.args.n start.requires.0.wide_enough start.requires.2 in
+    (start.requires.0, p.0, p.1, q.0, q.1)
+
+pub start_tile_from-requires : goal.start_tile_from-requires
+start_tile_from-requires c =
+    let start = c.before.before in
+    let wide = start.requires.0.wide_enough in
+    let p = start_posit_fits start.args.n wide start.requires.1 c.if-s-eq-OPEN_ZERO.false in
+    let q = end_posit_fits start.args.n wide start.requires.2 in
+    let k = result_cell_above start.args.n start.args.es wide p q true c.quotient_cell.ensures in
+    (wide, start.requires.0.not_too_wide, k.0, k.1)
+
+pub returns : goal.returns
+returns c =
+    let start = c.before.before.before in
+    let wide = start.requires.0.wide_enough in
+    start_between start.args.n start.args.es true (start_edge_says start.args.n wide start.requires.1 c.if-s-eq-OPEN_ZERO.false) (end_edge_says start.args.n wide start.requires.2) c.quotient_cell.ensures c.start_tile_from.ensures
