@@ -1,5 +1,5 @@
 -- The steps of a sheet: bytes by threes, the tests and rows of what is left, and rows that stay real ranges.
-use mathlib.Core.Path.{◌≡◌, refl, sym, ap, ◌∙◌}
+use mathlib.Core.Path.{◌≡◌, refl, sym, ap, ◌∙◌, subst}
 use mathlib.Core.Bool.{true, false}
 use mathlib.Core.Logic.{◌≢◌}
 use mathlib.Core.List.{List, [], ◌∷◌, ◌++◌}
@@ -111,21 +111,18 @@ pub row_real : {n es : ℕ} {rows : List ℕ} {s : Step} → Format n es → Ste
 row_real {n} {es} {s = s} f fit = answer_real n es s.operation _ _ f.wide_enough fit.operation
 
 -- ---- bytes by threes
+byte_next : (bytes : List ℕ) (at : ℕ) {next : ℕ} → at < length bytes → suc at ≡ next → drop at bytes ≡ get_or bytes at 0 ∷ drop next bytes
+byte_next bytes at h e = subst (λ (k : ℕ). drop at bytes ≡ get_or bytes at 0 ∷ drop k bytes) e (drop-cons bytes at 0 h)
+
 pub steps_next : (at : ℕ) (bytes : List ℕ) → at + 2 < length bytes
     → steps_of (drop at bytes) ≡ record { operation = get_or bytes at 0; left = get_or bytes (at + 1) 0; right = get_or bytes (at + 2) 0 } ∷ steps_of (drop (at + 3) bytes)
 unfolding steps_of
 steps_next at bytes h =
-    rw (
-      drop-cons bytes at 0 (omega arith),
-      ← add-one at,
-      drop-cons bytes (at + 1) 0 (omega arith),
-      ← add-one (at + 1),
-      add_assoc at 1 1,
-      drop-cons bytes (at + 2) 0 h,
-      ← add-one (at + 2),
-      add_assoc at 2 1,
-      steps_of,
-    )
+    ap steps_of
+    (byte_next bytes at {next = at + 1} (omega arith) (omega arith)
+    ∙ ap (λ (l : List ℕ). get_or bytes at 0 ∷ l)
+        (byte_next bytes (at + 1) {next = at + 2} (omega arith) (omega arith)
+        ∙ ap (λ (l : List ℕ). get_or bytes (at + 1) 0 ∷ l) (byte_next bytes (at + 2) {next = at + 3} h (omega arith))))
 
 pub steps_end : (at : ℕ) (bytes : List ℕ) → length bytes ≤ at → steps_of (drop at bytes) ≡ []
 unfolding steps_of
