@@ -1,4 +1,6 @@
 // The calls on posits, ranges, columns and sheets for programs in Rust and C: enums as document 01's numbers, answers as plain structs.
+#![tactic(auto)]
+
 pub mod columns;
 pub mod compare;
 pub mod decode;
