@@ -22,8 +22,8 @@ const SCRAMBLED: u32 = 300;
 /// The numbers that a file may come back with: with room for every sheet 9 is not one of them.
 const OF_FILES: [u32; 9] = [0, 1, 2, 3, 4, 5, 7, 8, 10];
 
-/// The program that `rt check sheetrows` builds.
-const PROGRAM: &str = concat!(env!("CARGO_MANIFEST_DIR"), "/../../target/bin/sheetrows");
+/// The program that `./run` builds.
+const PROGRAM: &str = concat!(env!("CARGO_MANIFEST_DIR"), "/../../crates/sheetrows/out/sheetrows");
 
 pub fn every() -> Outcome {
     if !Path::new(PROGRAM).exists() {
