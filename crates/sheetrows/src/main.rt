@@ -1,41 +1,54 @@
 // The program: reads a sheet file on standard input, and prints its rows or its refusal; what it could not read or write it says on standard error.
-ghost use Rattle.std.specs.Prelude.{◌≡◌};
+#![tactic(auto)]
+
+ghost use Rattle.std.specs.Prelude.{◌≡◌, ◌≤◌};
 ghost use Rattle.text.specs.FileText.{text_of_file};
 
-use libc::{STDERR_FILENO, STDIN_FILENO, STDOUT_FILENO};
+use std::io::Read;
 use text::file_text::{TEXT_BYTES, sheet_text};
 
+// Says on standard error what went wrong; where that fails too, nobody is left to hear it.
+fn say(rt: &HostRuntime, what: &str) {
+    match rt.eprintln(what) {
+        Ok(_) | Err(_) => {}
+    }
+}
+
 // Prints the text of a file; no contract can speak of standard output, so this one asks that the bytes are the text.
-fn print(file: &[u8], text: &[u8])
+fn print(rt: &HostRuntime, file: &[u8], text: &[u8])
     requires { text.now ≡ text_of_file file.now }
 {
-    if !io::write_all(STDOUT_FILENO, text) {
-        io::write_all(
-            STDERR_FILENO,
-            b"sheetrows: standard output could not be written\n",
-        );
+    if rt.write_all(text).is_err() {
+        say(rt, "sheetrows: standard output could not be written");
     }
 }
 
-// One byte more than the longest sheet file, 9 + 32 * 8 + 64 * 3; a longer file has the text of these bytes (`long-text`, in `text`).
+// One byte more than the longest sheet file, 9 + 32 * 8 + 64 * 3; a longer file has the text of these bytes (`long_text`, in `text`).
 const ENOUGH: usize = 458;
 
-// Says so where fewer bytes arrived than were asked and yet the input has not ended: at its end one more read gives 0.
-fn see_the_end(arrived: usize) {
-    let mut more = [0u8; 1];
-    if arrived < ENOUGH && libc::read(STDIN_FILENO, &mut more) != 0 {
-        io::write_all(
-            STDERR_FILENO,
-            b"sheetrows: standard input could not be read\n",
-        );
+// Reads until the bytes are full, the input ends or a read fails, which it says, and answers how many bytes arrived.
+fn read_file(rt: &HostRuntime, file: &mut [u8; ENOUGH]) -> usize
+    ensures { result ≤ 458 }
+{
+    let mut input = rt.stdin();
+    let mut arrived: usize = 0;
+    while arrived < ENOUGH {
+        match input.read(&mut file[arrived..]) {
+            Ok(0) => return arrived,
+            Ok(more) => arrived += more,
+            Err(_) => {
+                say(rt, "sheetrows: standard input could not be read");
+                return arrived;
+            }
+        }
     }
+    arrived
 }
 
-fn main() {
+fn main(rt: HostRuntime) {
     let mut file = [0u8; ENOUGH];
-    let arrived = io::read_full(STDIN_FILENO, &mut file);
-    see_the_end(arrived);
+    let arrived = read_file(&rt, &mut file);
     let mut text = [0u8; TEXT_BYTES];
     let count = sheet_text(&file[..arrived], &mut text);
-    print(&file[..arrived], &text[..count]);
+    print(&rt, &file[..arrived], &text[..count]);
 }
