@@ -4,7 +4,7 @@ use mathlib.Core.Bool.{true, false}
 use mathlib.Core.Logic.{◌≢◌}
 use mathlib.Core.List.{List, [], ◌∷◌, ◌++◌}
 use Prim.Native.Nat.{ℕ, zero, suc, ◌+◌, ◌≤◌, ◌<◌}
-use native.Mathlib.Nat.{add-zero, add-suc, suc-add, add_assoc, not-suc-le-zero, le_of_suc-le-suc}
+use native.Mathlib.Nat.{add-zero, add-suc, suc-add, not-suc-le-zero, le_of_suc-le-suc}
 use native.Mathlib.Numerals.{add-one}
 use native.Mathlib.Omega.{arith}
 use lib.Dec.{leb}
@@ -121,8 +121,8 @@ steps_next at bytes h =
     ap steps_of
     (byte_next bytes at {next = at + 1} (omega arith) (omega arith)
     ∙ ap (λ (l : List ℕ). get_or bytes at 0 ∷ l)
-        (byte_next bytes (at + 1) {next = at + 2} (omega arith) (omega arith)
-        ∙ ap (λ (l : List ℕ). get_or bytes (at + 1) 0 ∷ l) (byte_next bytes (at + 2) {next = at + 3} h (omega arith))))
+    (byte_next bytes (at + 1) {next = at + 2} (omega arith) (omega arith)
+    ∙ ap (λ (l : List ℕ). get_or bytes (at + 1) 0 ∷ l) (byte_next bytes (at + 2) {next = at + 3} h (omega arith))))
 
 pub steps_end : (at : ℕ) (bytes : List ℕ) → length bytes ≤ at → steps_of (drop at bytes) ≡ []
 unfolding steps_of

@@ -1,7 +1,5 @@
 -- The refusals that sheets have beside those of single calls.
 use Rattle.std.specs.Prelude.{not, ◌||◌, ℕ, ◌/◌, ◌%◌, eqb, leb, ltb}
-use Rattle.exact.specs.Fraction.{whole}
-use Rattle.call.specs.Operation.{over}
 use Rattle.call.specs.Verdict.{Test}
 use Rattle.call.specs.Number.{wrong_length, not_earlier}
 

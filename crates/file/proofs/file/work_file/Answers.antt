@@ -4,7 +4,6 @@ use Prim.Native.Nat.{◌+◌, ◌*◌}
 use native.Mathlib.Omega.{arith}
 use lib.ListN.{length-take, length-drop}
 use lib.Seq.{length-take-le}
-use borrow.Author.Rules.{rules}
 use Rattle.file.specs.File.{input_count, words_of, file_tests, verdict_of_file}
 use Rattle.file.specs.Accepted.{FileFits}
 use Rattle.call.proofs.Tests.{Passing, passing_of}

@@ -6,7 +6,6 @@ use native.Mathlib.Nat.{zero-add}
 use native.Mathlib.Omega.{arith}
 use lib.ListN.{length, take, drop}
 use lib.Seq.{length-take-le}
-use borrow.Author.Rules.{rules}
 use Rattle.sheet.specs.Accepted.{SheetFits}
 use Rattle.sheet.specs.Sheet.{steps_of, rows_of, sheet_limits, inputs_tests, verdict_of_sheet}
 use Rattle.call.proofs.Tests.{Passing, passing_of, passing_both, passing_done}

@@ -5,7 +5,6 @@ use mathlib.Core.List.{List}
 use Prim.Native.Nat.{ℕ}
 use native.Mathlib.Omega.{arith}
 use lib.ListN.{length, get_or, take}
-use borrow.Author.Rules.{rules}
 use Rattle.file.specs.File.{verdict_of_file, rows_of_file}
 use Rattle.text.specs.FileText.{most_rows, Leaves}
 use Rattle.text.specs.Text.{refusal_line, row_lines}

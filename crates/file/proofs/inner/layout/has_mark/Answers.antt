@@ -1,5 +1,4 @@
 -- `file::inner::layout::has_mark` meets its contract: the three bytes are tested one by one.
-use borrow.Author.Rules.{rules}
 use borrow.Author.Tests.{eq-eqb, ne_eqb}
 use lib.ListN.{get_or}
 use Rattle.file.specs.File.{has_mark}

@@ -4,8 +4,7 @@ use mathlib.Core.Bool.{not}
 use native.Mathlib.Omega.{arith}
 use lib.Dec.{eqb, ltb}
 use lib.ListN.{length, take}
-use borrow.Author.Rules.{rules}
-use borrow.Author.Tests.{lt-ltb, le-ltb, eq-eqb, ne_eqb, not-true, not-false}
+use borrow.Author.Tests.{lt-ltb, le-ltb, eq-eqb, ne_eqb}
 use Rattle.posit.specs.Refusal.{format_test}
 use Rattle.file.specs.File.{has_mark, version_of, width_of, exponent_size_of, input_count, step_count, file_test, count_test, length_of, file_tests}
 use Rattle.call.proofs.Tests.{Passing, all_pass, one_passes, passing_both, passing_done}

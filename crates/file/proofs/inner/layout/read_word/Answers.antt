@@ -1,9 +1,8 @@
 -- `file::inner::layout::read_word` meets its contract: the bytes passed so far, from the high one down, give the number so far.
 use mathlib.Core.Path.{◌≡◌, ap, ◌∙◌}
-use Prim.Native.Nat.{ℕ, ◌+◌, ◌*◌, ◌-◌, ◌^◌, ◌≤◌, ◌<◌}
+use Prim.Native.Nat.{ℕ, ◌+◌, ◌*◌, ◌-◌, ◌^◌, ◌<◌}
 use native.Mathlib.Omega.{arith}
 use lib.ListN.{get_or, drop}
-use borrow.Author.Rules.{rules}
 use Rattle.file.specs.File.{number_of}
 use Rattle.file.proofs.Parts.{eight_at, word_begins, word_grows, word_fits}
 use Rattle.file.proofs.inner.layout.read_word.Goals as goal

@@ -1,13 +1,9 @@
 -- `file::inner::layout::read_words` meets its contract: after i turns the first i words are the first i of the bytes.
-use mathlib.Core.Path.{◌≡◌, sym, ap, ◌∙◌}
-use Prim.Native.Nat.{ℕ, ◌-◌, ◌≤◌}
-use native.Mathlib.Omega.{arith}
-use lib.ListN.{length, take, length-replicate}
-use lib.Seq.{take_all}
-use borrow.Author.Rules.{rules}
+use mathlib.Core.Path.{◌≡◌}
+use Prim.Native.Nat.{◌-◌, ◌≤◌}
+use lib.ListN.{length}
 use Rattle.file.specs.File.{words_of}
-use Rattle.call.proofs.Copies.{Copied, copy_none, copy_one, copy_length, copy_front}
-use Rattle.file.proofs.Parts.{length_words, word_at}
+use Rattle.call.proofs.Copies.{Copied}
 use Rattle.file.proofs.inner.layout.read_words.Given as goal
 
 abbrev pub invariant-loop-i : goal.invariant-loop-i

@@ -4,8 +4,7 @@ use mathlib.Core.Bool.{not}
 use mathlib.Core.List.{[], ◌∷◌}
 use Prim.Native.Nat.{◌+◌, ◌/◌}
 use native.Mathlib.Omega.{arith}
-use borrow.Author.Rules.{rules}
-use borrow.Author.Tests.{lt-ltb, le-ltb, not-true, not-false}
+use borrow.Author.Tests.{lt-ltb, le-ltb}
 use Rattle.posit.specs.Refusal.{format_test}
 use Rattle.sheet.specs.Refusal.{size_test}
 use Rattle.call.specs.Written.{room_test}

@@ -1,11 +1,10 @@
 -- `sheet::inner::steps::first_rows` meets its contract: after i turns the first i inputs are the first i rows.
 use mathlib.Core.Path.{◌≡◌, refl, sym, ap, ◌∙◌}
-use Prim.Native.Nat.{ℕ, ◌-◌, ◌≤◌}
+use Prim.Native.Nat.{ℕ}
 use native.Mathlib.Omega.{arith}
 use lib.ListN.{length, take, length-replicate}
 use lib.Seq.{take-length}
-use borrow.Author.Rules.{rules}
-use Rattle.call.proofs.Copies.{Copied, copy_none, copy_one, copy_length, copy_front}
+use Rattle.call.proofs.Copies.{copy_none, copy_one, copy_length, copy_front}
 use Rattle.sheet.proofs.inner.steps.first_rows.Goals as goal
 
 pub loop-i-init : goal.loop-i-init

@@ -1,11 +1,8 @@
 -- `sheet::inner::steps::first_rows` meets its contract: after i turns the first i inputs are the first i rows.
-use mathlib.Core.Path.{◌≡◌, refl, sym, ap, ◌∙◌}
-use Prim.Native.Nat.{ℕ, ◌-◌, ◌≤◌}
-use native.Mathlib.Omega.{arith}
-use lib.ListN.{length, take, length-replicate}
-use lib.Seq.{take-length}
-use borrow.Author.Rules.{rules}
-use Rattle.call.proofs.Copies.{Copied, copy_none, copy_one, copy_length, copy_front}
+use mathlib.Core.Path.{◌≡◌}
+use Prim.Native.Nat.{◌-◌, ◌≤◌}
+use lib.ListN.{length}
+use Rattle.call.proofs.Copies.{Copied}
 use Rattle.sheet.proofs.inner.steps.first_rows.Given as goal
 
 abbrev pub invariant-loop-i : goal.invariant-loop-i

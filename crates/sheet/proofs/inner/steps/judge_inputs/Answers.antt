@@ -1,10 +1,9 @@
 -- `sheet::inner::steps::judge_inputs` meets its contract: while no input is refused, the verdict of all inputs is that of the inputs left.
 use mathlib.Core.Path.{◌≡◌, refl, ap, ◌∙◌}
 use mathlib.Core.List.{◌++◌}
-use Prim.Native.Nat.{◌+◌, ◌-◌, ◌≤◌}
+use Prim.Native.Nat.{◌+◌}
 use native.Mathlib.Omega.{arith}
-use lib.ListN.{length, get_or, drop}
-use borrow.Author.Rules.{rules}
+use lib.ListN.{get_or, drop}
 use Rattle.call.specs.Verdict.{first_hit}
 use Rattle.call.proofs.FirstHit.{none_hits}
 use Rattle.word.specs.Refusal.{word_tests}

@@ -6,7 +6,6 @@ use lib.IntN.{pos}
 use native.Mathlib.Omega.{arith}
 use lib.ListN.{length, get_or, take}
 use lib.Seq.{length-take-le, get_or-take}
-use borrow.Author.Rules.{rules}
 use borrow.Author.Tests.{lt-ltb, le-ltb}
 use Rattle.exact.specs.Fraction.{whole}
 use Rattle.word.specs.Member.{Real, is_member}

@@ -1,11 +1,10 @@
 -- `sheet::inner::steps::work_steps` meets its contract: while no step is refused, the rows so far and the steps left come to what all steps come to.
 use mathlib.Core.Path.{◌≡◌, sym, ap, ◌∙◌, subst}
 use mathlib.Core.List.{List, ◌∷◌}
-use Prim.Native.Nat.{ℕ, ◌+◌, ◌*◌, ◌-◌, ◌/◌, ◌≤◌, ◌<◌}
+use Prim.Native.Nat.{ℕ, ◌+◌, ◌/◌, ◌<◌}
 use native.Mathlib.Omega.{arith}
 use lib.ListN.{length, get_or, take, drop, length-set}
 use lib.Seq.{length-take-le, get_or-take}
-use borrow.Author.Rules.{rules}
 use Rattle.call.specs.Verdict.{Verdict, first_hit, Says}
 use Rattle.call.specs.declared.judged.Judged.{Judged}
 use Rattle.word.specs.Member.{Real}
@@ -64,13 +63,12 @@ row_real t k h =
     (t.loop-at.invariant.3.real k (subst (λ (m : ℕ). k < m) (sym (as_many t)) h))
 
 pub loop-at-init : goal.loop-at-init
-loop-at-init c =
-    (
-      omega arith,
-      omega arith,
-      c.first_rows-rows.ensures.0,
-      subst (λ (l : List ℕ). Working c.args.n c.args.es c.args.inputs.now (steps_of c.args.steps.now) l (steps_of c.args.steps.now)) (sym c.first_rows-rows.ensures.1) (working_none c.requires.4),
-    )
+loop-at-init c = (
+  omega arith,
+  omega arith,
+  c.first_rows-rows.ensures.0,
+  subst (λ (l : List ℕ). Working c.args.n c.args.es c.args.inputs.now (steps_of c.args.steps.now) l (steps_of c.args.steps.now)) (sym c.first_rows-rows.ensures.1) (working_none c.requires.4),
+)
 
 pub bounds-steps-at-in-loop-at : goal.bounds-steps-at-in-loop-at
 bounds-steps-at-in-loop-at c = omega (arith, bytes_there (goal.at.bounds-steps-at-in-loop-at c).In-loop-at)

@@ -1,18 +1,9 @@
 -- `sheet::inner::steps::work_steps` meets its contract: while no step is refused, the rows so far and the steps left come to what all steps come to.
-use mathlib.Core.Path.{◌≡◌, sym, ap, ◌∙◌, subst}
-use mathlib.Core.List.{List, ◌∷◌}
-use Prim.Native.Nat.{ℕ, ◌+◌, ◌*◌, ◌-◌, ◌/◌, ◌≤◌, ◌<◌}
-use native.Mathlib.Omega.{arith}
-use lib.ListN.{length, get_or, take, drop, length-set}
-use lib.Seq.{length-take-le, get_or-take}
-use borrow.Author.Rules.{rules}
-use Rattle.call.specs.Verdict.{Verdict}
-use Rattle.word.specs.Member.{Real}
-use Rattle.sheet.specs.Accepted.{StepFits}
-use Rattle.sheet.specs.Sheet.{Step, steps_of, step_tests}
-use Rattle.call.proofs.Tests.{Passing, passing_of}
-use Rattle.call.proofs.Said.{accepts}
-use Rattle.sheet.proofs.Steps.{Working, working_none, working_one, working_refused, working_all, steps_next, steps_end, step_refusing, step_fits, row_put}
+use mathlib.Core.Path.{◌≡◌}
+use Prim.Native.Nat.{◌+◌, ◌*◌, ◌-◌, ◌≤◌}
+use lib.ListN.{length, take, drop}
+use Rattle.sheet.specs.Sheet.{steps_of}
+use Rattle.sheet.proofs.Steps.{Working}
 use Rattle.sheet.proofs.inner.steps.work_steps.Given as goal
 
 abbrev pub invariant-loop-at : goal.invariant-loop-at

@@ -1,9 +1,7 @@
 -- `sheet::inner::steps::write_rows` meets its contract: after i turns the first i rows stand at the front, and the rest is as it was.
 use mathlib.Core.Path.{◌≡◌, refl, subst}
-use Prim.Native.Nat.{ℕ, ◌-◌, ◌≤◌}
+use Prim.Native.Nat.{ℕ}
 use native.Mathlib.Omega.{arith}
-use lib.ListN.{length}
-use borrow.Author.Rules.{rules}
 use Rattle.call.proofs.Copies.{Copied, copy_none, copy_one, copy_length, copy_all}
 use Rattle.sheet.proofs.inner.steps.write_rows.Goals as goal
 use Rattle.sheet.proofs.inner.steps.write_rows.Goals.{After-way_told-1, At-loop-i, Start}

@@ -1,10 +1,8 @@
 -- `sheet::inner::steps::write_rows` meets its contract: after i turns the first i rows stand at the front, and the rest is as it was.
-use mathlib.Core.Path.{◌≡◌, refl, subst}
-use Prim.Native.Nat.{ℕ, ◌-◌, ◌≤◌}
-use native.Mathlib.Omega.{arith}
+use mathlib.Core.Path.{◌≡◌}
+use Prim.Native.Nat.{◌-◌, ◌≤◌}
 use lib.ListN.{length}
-use borrow.Author.Rules.{rules}
-use Rattle.call.proofs.Copies.{Copied, copy_none, copy_one, copy_length, copy_all}
+use Rattle.call.proofs.Copies.{Copied}
 use Rattle.sheet.proofs.inner.steps.write_rows.Given as goal
 
 abbrev pub invariant-loop-i : goal.invariant-loop-i

@@ -1,5 +1,4 @@
 -- `text::inner::fields::hex_digit` meets its contract: below 10 the digit counts from `0`, else from `a`.
-use borrow.Author.Rules.{rules}
 use borrow.Author.Tests.{lt-ltb, le-ltb}
 use Rattle.text.specs.Text.{digit}
 use Rattle.text.proofs.inner.fields.hex_digit.Goals as goal

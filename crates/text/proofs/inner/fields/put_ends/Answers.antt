@@ -5,7 +5,6 @@ use Prim.Native.Nat.{ℕ, ◌/◌, ◌%◌, ◌<◌}
 use native.Mathlib.Omega.{arith}
 use lib.ListN.{length}
 use lib.Pow.{pow_pos}
-use borrow.Author.Rules.{rules}
 use Rattle.word.specs.Word.{start_tile, end_tile}
 use Rattle.text.specs.Put.{Put}
 use Rattle.text.specs.Text.{end_fields}

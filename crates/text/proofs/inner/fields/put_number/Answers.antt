@@ -4,7 +4,6 @@ use mathlib.Core.List.{List, ◌∷◌}
 use Prim.Native.Nat.{ℕ}
 use native.Mathlib.Omega.{arith}
 use lib.ListN.{length, take}
-use borrow.Author.Rules.{rules}
 use Rattle.text.specs.Put.{Put}
 use Rattle.text.specs.Text.{decimal, space}
 use Rattle.text.proofs.Decimals.{fewest_digits}

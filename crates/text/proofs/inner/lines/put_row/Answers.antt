@@ -3,7 +3,6 @@ use mathlib.Core.List.{◌++◌}
 use Prim.Native.Nat.{◌+◌, ◌≤◌}
 use native.Mathlib.Omega.{arith}
 use lib.ListN.{length, length-append}
-use borrow.Author.Rules.{rules}
 use Rattle.text.specs.Put.{Put}
 use Rattle.text.specs.Text.{row_word, field, decimal, range_fields, row_line}
 use Rattle.text.proofs.Decimals.{row_digits}

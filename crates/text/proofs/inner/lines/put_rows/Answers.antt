@@ -1,11 +1,10 @@
 -- `text::inner::lines::put_rows` meets its contract: after i turns the lines of the first i rows stand at the front.
-use mathlib.Core.Path.{◌≡◌, refl, sym, subst}
+use mathlib.Core.Path.{refl, sym, subst}
 use mathlib.Core.List.{List}
-use Prim.Native.Nat.{ℕ, ◌+◌, ◌*◌, ◌-◌, ◌≤◌}
+use Prim.Native.Nat.{ℕ, ◌+◌, ◌*◌, ◌≤◌}
 use native.Mathlib.Omega.{arith}
-use lib.ListN.{length, get_or, take}
+use lib.ListN.{get_or}
 use lib.Seq.{take_all}
-use borrow.Author.Rules.{rules}
 use Rattle.text.specs.Put.{Put}
 use Rattle.text.specs.Text.{row_lines}
 use Rattle.text.proofs.Puts.{put_nothing, put_length, put_next}

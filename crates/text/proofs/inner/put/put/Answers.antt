@@ -1,10 +1,7 @@
 -- `text::inner::put::put` meets its contract: after i turns the first i bytes stand at the place, and the rest is as it was.
-use mathlib.Core.Path.{◌≡◌, refl}
-use Prim.Native.Nat.{◌-◌, ◌≤◌}
+use mathlib.Core.Path.{refl}
 use native.Mathlib.Omega.{arith}
-use lib.ListN.{length}
-use borrow.Author.Rules.{rules}
-use Rattle.text.proofs.Puts.{Putting, put_none, put_one, putting_length, put_all}
+use Rattle.text.proofs.Puts.{put_none, put_one, putting_length, put_all}
 use Rattle.text.proofs.inner.put.put.Goals as goal
 use Rattle.text.proofs.inner.put.put.Goals.{Start}
 

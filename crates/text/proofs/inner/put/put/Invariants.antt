@@ -1,10 +1,8 @@
 -- `text::inner::put::put` meets its contract: after i turns the first i bytes stand at the place, and the rest is as it was.
-use mathlib.Core.Path.{◌≡◌, refl}
+use mathlib.Core.Path.{◌≡◌}
 use Prim.Native.Nat.{◌-◌, ◌≤◌}
-use native.Mathlib.Omega.{arith}
 use lib.ListN.{length}
-use borrow.Author.Rules.{rules}
-use Rattle.text.proofs.Puts.{Putting, put_none, put_one, putting_length, put_all}
+use Rattle.text.proofs.Puts.{Putting}
 use Rattle.text.proofs.inner.put.put.Given as goal
 
 abbrev pub invariant-loop-i : goal.invariant-loop-i
