@@ -1,5 +1,5 @@
 -- A digest of all values of a format, and one of all answers of an operation, by the definitions.
-use Rattle.std.specs.Prelude.{Bool, true, false, ℕ, zero, suc, ◌+◌, ◌-◌, ◌*◌, ◌%◌, ◌/◌, ◌^◌, ℤ, pos, negsuc, eqb}
+use Rattle.std.specs.Prelude.{true, false, ℕ, zero, suc, ◌+◌, ◌-◌, ◌*◌, ◌%◌, ◌/◌, ◌^◌, ℤ, pos, negsuc, eqb}
 use Rattle.posit.specs.Format.{nar, m}
 use Rattle.posit.specs.Value.{units}
 use Rattle.posit.specs.Arithmetic.{answer}

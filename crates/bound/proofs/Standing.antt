@@ -1,5 +1,4 @@
 -- An end that stands where demand 3 has it lets in every result, and no end that lets in every result stands further in.
-use mathlib.Core.Logic.{◌↔◌}
 use Prim.Native.Nat.{ℕ, ◌≤◌, ◌<◌}
 use native.Mathlib.Decide.{dec_le}
 use native.Mathlib.Omega.{arith}

@@ -37,7 +37,7 @@ use Rattle.word.specs.Numbered.{count, pattern_at, number_of, value_at}
 use Rattle.word.specs.Spans.{top_cell}
 use Rattle.word.specs.Computed.{cell_of}
 use Rattle.cell.specs.Cells.{cell_with_sign, SignedOf, sum_start, sum_end}
-use Rattle.word.proofs.Grid.{half, pattern_finite}
+use Rattle.word.proofs.Grid.{pattern_finite}
 use Rattle.word.proofs.Places.{top_cell_says}
 use Rattle.word.proofs.Tiles.{half_small}
 use Rattle.cell.proofs.CellFrom.{cell_bounded, cell_same, cell_of_posit, cell_with_sign_says}

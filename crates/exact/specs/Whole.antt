@@ -1,5 +1,5 @@
 -- Whole numbers are the library's ℤ with its order; beside it stands only what a fraction needs to be made.
-use Rattle.std.specs.Prelude.{◌≡◌, refl, ℕ, zero, suc, ◌+◌, ◌*◌, ◌^◌, ◌≤◌, ◌<◌, ℤ, pos, negsuc, neg_ℤ, ◌*ℤ◌, ◌<ℤ◌}
+use Rattle.std.specs.Prelude.{ℕ, ◌^◌, ◌<◌, ℤ, pos, negsuc, ◌*ℤ◌, ◌<ℤ◌}
 use Rattle.std.proofs.Common.{mul-pos, ltb→lt, lt→ltb, pow_pos}
 use Rattle.std.specs.Int.Signed.{lt_z_yes}
 

@@ -2,7 +2,7 @@
 -- the difference is the sum with the negated posit, since that has the negated value and is NaR where the posit is.
 use Rattle.std.proofs.Common.{◌≡◌, ℕ, ◌^◌, ◌<◌, ◌≤◌, Bool, eqb, ℤ, sym, refl, ap, ◌∙◌, subst, arith, w32, to_z, of_z, eq-eqb, ne_eqb}
 use native.Mathlib.Decide.{ℕ_discrete}
-use Rattle.exact.specs.Fraction.{Fraction, ◌≈◌, ◌+ᶠ◌}
+use Rattle.exact.specs.Fraction.{Fraction, ◌+ᶠ◌}
 use Rattle.exact.proofs.Order.{≈_refl, ≈_sym, ◌⨾◌}
 use Rattle.exact.proofs.Sum.{+ᶠ_cong, +ᶠ_idl, +ᶠ_idr, -ᶠ_is}
 use Rattle.posit.specs.declared.decoded.Decoded.{Decoded}

@@ -3,7 +3,6 @@
 use Rattle.std.proofs.Common.{◌≡◌, ℕ, suc, ◌+◌, ◌-◌, ◌*◌, ◌/◌, ◌%◌, ◌^◌, ◌<◌, ◌≤◌, Bool, true, false, T, eqb, sym, refl, ap, ◌∙◌, subst, mul-le-mul_right, mul-lt-mul_of_pos_right, mul-pos, arith, pow_pos, pow_mono, pow-add, eqb-true}
 use borrow.Author.Tests.{eqb-false}
 use lib.Pow.{pow-lt}
-use Rattle.posit.specs.Format.{m}
 use Rattle.posit.specs.Value.{multiple}
 use Rattle.posit.proofs.Shapes.{zeros_value, ones_value}
 use Rattle.posit.proofs.Order.{multiple_zero, multiple_one, multiple_top, after_zeros, after_ones}

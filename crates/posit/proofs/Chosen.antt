@@ -1,5 +1,5 @@
 -- The choice that `behind_run` makes by a mark: the mark is 0 below the middle and 1 from it on, and either way few bits stand behind the run.
-use Rattle.std.proofs.Common.{◌≡◌, ℕ, zero, suc, ◌+◌, ◌-◌, ◌*◌, ◌/◌, ◌^◌, ◌<◌, ◌≤◌, ◌⊎◌, refl, inl, inr, arith}
+use Rattle.std.proofs.Common.{◌≡◌, ℕ, zero, suc, ◌+◌, ◌-◌, ◌*◌, ◌/◌, ◌<◌, ◌≤◌, ◌⊎◌, refl, inl, inr, arith}
 use Rattle.posit.specs.Parts.{chosen_by}
 
 -- 1 where the run of a regime is of ones

@@ -1,5 +1,5 @@
 -- The product of g · 2^e / 2^k and h · 2^d / 2^k is g · h · 2^(e + d) / 2^(2k), and as many zero bits as one likes may stand below it.
-use Rattle.std.proofs.Common.{◌≡◌, ℕ, ◌+◌, ◌-◌, ◌*◌, ◌^◌, ◌<◌, ◌≤◌, false, ℤ, pos, mul-le-mul, arith, pow-add, w64, Fits}
+use Rattle.std.proofs.Common.{◌≡◌, ℕ, ◌+◌, ◌*◌, ◌^◌, ◌<◌, ◌≤◌, false, ℤ, pos, mul-le-mul, arith, pow-add, w64, Fits}
 use Rattle.exact.specs.Fraction.{◌≈◌, over_power, ◌*ᶠ◌}
 use Rattle.exact.proofs.Order.{≈_trans}
 use Rattle.exact.proofs.Product.{*ᶠ_cong}

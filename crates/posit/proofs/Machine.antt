@@ -1,6 +1,6 @@
 -- What the machine's shifts and wrapping differences are in plain arithmetic: a power of two that fits a word stays what it is,
 -- and a difference that wraps at the word, cut to n bits, wraps at n bits.
-use Rattle.std.proofs.Common.{◌≡◌, ℕ, zero, suc, ◌+◌, ◌-◌, ◌*◌, ◌/◌, ◌%◌, ◌^◌, ◌<◌, ◌≤◌, ◌⊎◌, sym, refl, ap, ◌∙◌, subst, inl, inr, le_refl, le_of_lt, mod-lt, mod-eq_of_lt, eq-zero-or-pos, one-mul, div-add-mod', sub-add_cancel, arith, pow_pos, pow-add}
+use Rattle.std.proofs.Common.{◌≡◌, ℕ, zero, suc, ◌+◌, ◌-◌, ◌*◌, ◌/◌, ◌%◌, ◌^◌, ◌<◌, ◌≤◌, ◌⊎◌, sym, refl, ap, ◌∙◌, inl, inr, mod-eq_of_lt, eq-zero-or-pos, one-mul, div-add-mod', sub-add_cancel, arith, pow_pos, pow-add}
 use native.Mathlib.Nat.{add-mul-mod_self_right, sub-zero, mod_self}
 use lib.Pow.{pow-lt}
 use Rattle.posit.specs.Format.{negated}

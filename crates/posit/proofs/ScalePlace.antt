@@ -4,7 +4,7 @@ use Rattle.std.proofs.Common.{◌≡◌, ℕ, zero, suc, ◌+◌, ◌*◌, ◌^�
 use lib.IntN.{+ℤ_idl}
 use lib.Signed.{lt_z, non_neg}
 use mir.ValLaws.{to_z-of_z}
-use Rattle.exact.specs.Fraction.{◌≤ᶠ◌, ◌<ᶠ◌, ◌≈◌}
+use Rattle.exact.specs.Fraction.{◌<ᶠ◌, ◌≈◌}
 use Rattle.exact.proofs.Order.{≤ᶠ_of_≈, ≈_sym, ≈_trans, ≈_<ᶠ, <ᶠ_≈}
 use Rattle.posit.specs.declared.inner.locate.Located.{Located}
 use Rattle.posit.specs.Decoding.{finite_value}

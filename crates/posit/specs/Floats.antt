@@ -1,5 +1,5 @@
 -- Posits from and to 64-bit floats, by exact values.
-use Rattle.std.specs.Prelude.{◌≡◌, ℕ, ◌*◌, ◌^◌, ◌<◌, Bool, true, false, pos, Float}
+use Rattle.std.specs.Prelude.{◌≡◌, ℕ, ◌*◌, ◌^◌, ◌<◌, Bool, false, pos, Float}
 use Rattle.std.specs.Float.{nan, inf, fin}
 use Rattle.exact.specs.Fraction.{Fraction, ◌≈◌, whole, over_power}
 use Rattle.posit.specs.declared.answer.Answer.{Answer}

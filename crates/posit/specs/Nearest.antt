@@ -1,5 +1,5 @@
 -- The rounded posit as a computation: a search through the patterns for the neighbours of |x|, and the rule at the pattern one bit longer.
-use Rattle.std.specs.Prelude.{ℕ, zero, suc, ◌+◌, ◌%◌, Bool, true, false, ◌==◌, unsigned_abs}
+use Rattle.std.specs.Prelude.{ℕ, zero, suc, ◌+◌, ◌%◌, true, false, ◌==◌, unsigned_abs}
 use Rattle.exact.specs.Fraction.{Fraction, leᶠ, ltᶠ}
 use Rattle.posit.specs.Format.{max_pos, min_pos}
 use Rattle.posit.specs.Value.{value}

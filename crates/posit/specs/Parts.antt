@@ -1,6 +1,6 @@
 -- What the inner functions say of their results: the parts of a pattern, a tail cut to size, and the rounding from a floor.
 use Rattle.std.specs.Prelude.{◌≡◌, ℕ, zero, suc, ◌+◌, ◌-◌, ◌*◌, ◌/◌, ◌%◌, ◌^◌, ◌<◌, ◌≤◌, Bool, true, false, ℤ, ◌==◌}
-use Rattle.exact.specs.Fraction.{Fraction, ◌≈◌, ◌<ᶠ◌}
+use Rattle.exact.specs.Fraction.{◌≈◌, ◌<ᶠ◌}
 use Rattle.posit.specs.declared.inner.unpack.Parts.{Parts}
 use Rattle.posit.specs.declared.inner.locate.Located.{Located}
 use Rattle.posit.specs.declared.decoded.Decoded.{Decoded}
@@ -8,7 +8,7 @@ use Rattle.posit.specs.declared.decoded.Decoded.TheVariants.{Zero, Nar, Finite}
 use Rattle.posit.specs.Format.{max_pos, min_pos, negated}
 use Rattle.posit.specs.Value.{multiple, value}
 use Rattle.posit.specs.Decoding.{finite_value}
-use Rattle.posit.specs.Locating.{Locates, IsFloor}
+use Rattle.posit.specs.Locating.{IsFloor}
 use Rattle.posit.specs.Magnitudes.{SmallForm}
 
 -- bit k is the highest set bit of x

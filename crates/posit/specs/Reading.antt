@@ -1,6 +1,6 @@
 -- How the b bits after a clear sign are read: a run of equal bits, one closing bit if there is room, exponent bits, fraction bits.
 -- The number b is one less than the width; p is a pattern of b bits that is not 0.
-use Rattle.std.specs.Prelude.{ℕ, zero, suc, ◌+◌, ◌-◌, ◌*◌, ◌/◌, ◌%◌, ◌^◌, min, Bool, true, false, ℤ, pos, ◌+ℤ◌, ◌*ℤ◌, neg_ℤ, ◌==◌}
+use Rattle.std.specs.Prelude.{ℕ, zero, suc, ◌+◌, ◌-◌, ◌*◌, ◌/◌, ◌%◌, ◌^◌, min, true, false, ℤ, pos, ◌+ℤ◌, ◌*ℤ◌, neg_ℤ, ◌==◌}
 use Rattle.exact.specs.Fraction.{Fraction, over_power, scaled, ◌*ᶠ◌}
 
 -- bit i of p; bit 0 is the lowest

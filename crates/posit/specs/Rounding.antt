@@ -1,5 +1,5 @@
 -- The rounding of an exact value x to a posit, a constructor for each sentence of the rule.
-use Rattle.std.specs.Prelude.{◌≡◌, ℕ, suc, ◌+◌, ◌*◌, ◌%◌, Bool, true, false, ◌⊎◌, ℤ, pos, negsuc, unsigned_abs}
+use Rattle.std.specs.Prelude.{◌≡◌, ℕ, ◌+◌, ◌*◌, ◌%◌, ◌⊎◌, ℤ, pos, negsuc, unsigned_abs}
 use Rattle.exact.specs.Fraction.{Fraction, ◌<ᶠ◌, ◌≤ᶠ◌, ◌≈◌, whole}
 use Rattle.posit.specs.Format.{Finite, max_pos, min_pos, negated}
 use Rattle.posit.specs.Value.{value}

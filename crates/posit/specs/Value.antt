@@ -1,5 +1,5 @@
 -- What a posit is worth: every finite posit is a whole multiple of minPos, which is 2^-m.
-use Rattle.std.specs.Prelude.{ℕ, zero, suc, ◌+◌, ◌-◌, ◌*◌, ◌^◌, ◌<◌, Bool, true, false, cond, ℤ, pos, neg_ℤ, nat_lt}
+use Rattle.std.specs.Prelude.{ℕ, zero, suc, ◌+◌, ◌-◌, ◌*◌, ◌^◌, true, false, cond, ℤ, pos, neg_ℤ, nat_lt}
 use Rattle.exact.specs.Fraction.{Fraction, over_power}
 use Rattle.posit.specs.Format.{m, nar, negated}
 use Rattle.posit.specs.Reading.{run_bit, run_length, exponent, fraction_bits, fraction}

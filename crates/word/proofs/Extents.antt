@@ -17,7 +17,7 @@ use Rattle.bound.proofs.Extent.{spans_of_same_set, normal_spans, normal_of_some,
 use Rattle.bound.proofs.Smallest.{at_low}
 use Rattle.word.specs.Word.{start_of, end_of}
 use Rattle.word.specs.Member.{Real, Member}
-use Rattle.word.specs.Numbered.{count, number_of}
+use Rattle.word.specs.Numbered.{number_of}
 use Rattle.word.specs.Spans.{cells_of}
 use Rattle.word.proofs.Grid.{posits}
 use Rattle.word.proofs.Places.{top_cell_says}

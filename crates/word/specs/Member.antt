@@ -1,6 +1,6 @@
 -- The members of a range are fractions; a real range is a word that does not hold infinity, and empty words count.
-use Rattle.std.specs.Prelude.{◌≡◌, Bool, true, false, ◌&&◌, ℕ, ◌<◌, pos}
-use Rattle.exact.specs.Fraction.{Fraction, ◌≤ᶠ◌, ◌<ᶠ◌, leᶠ, ltᶠ, whole}
+use Rattle.std.specs.Prelude.{◌≡◌, Bool, true, false, ◌&&◌, ℕ, ◌<◌}
+use Rattle.exact.specs.Fraction.{Fraction, ◌≤ᶠ◌, ◌<ᶠ◌, leᶠ, ltᶠ}
 use Rattle.bound.specs.Bound.{Bound, none, closed_at, open_at}
 use Rattle.posit.specs.Value.{value}
 use Rattle.word.specs.Word.{words, kind, is_infinite, start_of, end_of}

@@ -1,6 +1,6 @@
 -- The inner language of ranges: an interval of cells, numbered from 0 up; cell 2k + 1 is posit number k alone, and the even cells are
 -- the gaps below, between and above the posits. An interval with lo above hi is empty.
-use Rattle.std.specs.Prelude.{◌≡◌, Bool, true, false, ℕ, zero, suc, ◌+◌, ◌-◌, ◌*◌, ◌/◌, ◌%◌, ◌^◌, ◌≤◌, ◌<◌, eqb, ltb}
+use Rattle.std.specs.Prelude.{◌≡◌, Bool, true, false, ℕ, ◌+◌, ◌-◌, ◌*◌, ◌/◌, ◌%◌, ◌^◌, ◌≤◌, ◌<◌, eqb, ltb}
 use Rattle.posit.specs.Format.{negated}
 use Rattle.word.specs.declared.inner.span.Span.{Span}
 use Rattle.word.specs.Word.{tiles, start_tile, end_tile, open_nar, empty_word, word_of}

@@ -1,6 +1,5 @@
 -- `posit::compare::compare` meets its contract: its tests are those of the verdict in the same order, and past them the patterns fit.
-use Rattle.std.proofs.Common.{sym, refl, ◌∙◌, arith, rules}
-use borrow.Author.Tests.{not-true, not-false}
+use Rattle.std.proofs.Common.{sym, refl, ◌∙◌, arith}
 use Rattle.call.proofs.Answered.{answers_refused, answers_done}
 use Rattle.posit.proofs.Verdicts.{format_of, two_outside, two_left, two_right, two_done}
 use Rattle.posit.proofs.compare.compare.Goals as goal

@@ -1,5 +1,5 @@
 -- `posit::compare::order_of` meets its contract: it compares the patterns with their top bits turned over, which order as the signed integers do.
-use Rattle.std.proofs.Common.{arith, rules}
+use Rattle.std.proofs.Common.{arith}
 use Rattle.posit.proofs.Turned.{sum_fits, less_turned, same_turned}
 use Rattle.posit.proofs.compare.order_of.Goals as goal
 

@@ -1,6 +1,5 @@
 -- `posit::decode::decode` meets its contract: its two tests are those of the verdict, in their order, and what passes both is unpacked.
-use Rattle.std.proofs.Common.{sym, refl, ◌∙◌, arith, rules}
-use borrow.Author.Tests.{not-true, not-false}
+use Rattle.std.proofs.Common.{sym, refl, ◌∙◌, arith}
 use Rattle.call.proofs.Answered.{answers_refused, answers_done}
 use Rattle.posit.proofs.Verdicts.{format_of, one_outside, one_too_large, one_done}
 use Rattle.posit.proofs.decode.decode.Goals as goal

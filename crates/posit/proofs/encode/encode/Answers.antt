@@ -1,5 +1,5 @@
 -- `posit::encode::encode` meets its contract: the format test is the only one, and a format's decoded posit is packed.
-use Rattle.std.proofs.Common.{◌≡◌, true, false, sym, refl, ◌∙◌, rules}
+use Rattle.std.proofs.Common.{◌≡◌, true, false, sym, refl, ◌∙◌}
 use borrow.Author.Tests.{not-true, not-false}
 use Rattle.posit.specs.Format.{is_format}
 use Rattle.call.proofs.Answered.{answers_refused, answers_done}

@@ -1,5 +1,5 @@
 -- `posit::encode::locate_scaled` meets its contract: a scale of either sign goes to `locate` without loss, and what that locates is the number meant.
-use Rattle.std.proofs.Common.{arith, rules}
+use Rattle.std.proofs.Common.{arith}
 use Rattle.posit.proofs.ScalePlace.{read_back_fits, opposite_fits, turned_natural, turned_small, scaled_down, read_back_natural, read_back_small, scaled_up}
 use Rattle.posit.proofs.encode.locate_scaled.Goals as goal
 

@@ -1,7 +1,6 @@
 -- `posit::from_float::from_float` meets its contract: its test is the verdict's, a NaN differs from itself, and any other float is read from its own bits.
-use Rattle.std.proofs.Common.{◌≡◌, true, T, sym, refl, ◌∙◌, subst, arith, rules}
+use Rattle.std.proofs.Common.{◌≡◌, true, T, sym, refl, ◌∙◌, subst, arith}
 use lib.Ieee.{binary64, fits}
-use borrow.Author.Tests.{not-true, not-false}
 use Rattle.posit.specs.Format.{Format, is_format}
 use Rattle.call.proofs.Answered.{answers_refused, answers_done}
 use Rattle.posit.proofs.Verdicts.{format_of, format_outside, format_done}

@@ -1,6 +1,5 @@
 -- `posit::negate::negate` meets its contract: its tests are those of the verdict in the same order, and past them the pattern is negated.
-use Rattle.std.proofs.Common.{sym, refl, ◌∙◌, arith, rules}
-use borrow.Author.Tests.{not-true, not-false}
+use Rattle.std.proofs.Common.{sym, refl, ◌∙◌, arith}
 use Rattle.call.proofs.Answered.{answers_refused, answers_done}
 use Rattle.posit.proofs.Verdicts.{format_of, one_outside, one_too_large, one_done}
 use Rattle.posit.proofs.negate.negate.Goals as goal

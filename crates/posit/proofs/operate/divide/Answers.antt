@@ -1,5 +1,5 @@
 -- `posit::operate::divide` meets its contract: the call is judged by its two posits, and what is accepted has the quotient that `divide_posits` gives.
-use Rattle.std.proofs.Common.{arith, rules}
+use Rattle.std.proofs.Common.{arith}
 use Rattle.posit.proofs.Calls.{call_refused, call_accepted, call_done}
 use Rattle.posit.proofs.operate.divide.Goals as goal
 

@@ -1,5 +1,5 @@
 -- `posit::operate::operate` meets its contract: a number up to 3 is a named call, and any other is refused after the format.
-use Rattle.std.proofs.Common.{◌<◌, sym, refl, ◌∙◌, arith, rules}
+use Rattle.std.proofs.Common.{◌<◌, sym, refl, ◌∙◌, arith}
 use Rattle.call.proofs.Answered.{answers_refused}
 use Rattle.posit.proofs.Verdicts.{operation_outside, operation_unknown}
 use Rattle.posit.proofs.operate.operate.Goals as goal

@@ -1,5 +1,4 @@
 -- `posit::to_float::floated_of` meets its contract: zero is +0.0, NaR is its own case, and any other posit is the float of its decoded form.
-use Rattle.std.proofs.Common.{rules}
 use Rattle.posit.proofs.SmallScale.{kept_small}
 use Rattle.posit.proofs.Operated.{is_nar, is_zero, is_finite, is_small}
 use Rattle.posit.proofs.FloatExact.{zero_float, odd_float}

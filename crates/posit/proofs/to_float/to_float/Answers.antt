@@ -1,6 +1,5 @@
 -- `posit::to_float::to_float` meets its contract: its two tests are those of the verdict, in their order, and what passes both is made a float.
-use Rattle.std.proofs.Common.{◌≡◌, true, sym, ap, ◌∙◌, arith, rules}
-use borrow.Author.Tests.{not-true, not-false}
+use Rattle.std.proofs.Common.{◌≡◌, true, sym, ap, ◌∙◌, arith}
 use Rattle.posit.specs.declared.float.Floated.TheVariants.{Value}
 use Rattle.posit.specs.Format.{Format, is_format}
 use Rattle.call.proofs.Answered.{answers_refused, answers_done}

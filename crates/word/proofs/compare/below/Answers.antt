@@ -1,5 +1,4 @@
 -- `word::compare::below` meets its contract: both words are judged first, and then the cells decide.
-use borrow.Author.Rules.{rules}
 use Rattle.word.specs.Member.{Below}
 use Rattle.word.proofs.Verdicts.{comparison_refused, comparison_asks, comparison_done}
 use Rattle.word.proofs.compare.below.Goals as goal

@@ -1,5 +1,4 @@
 -- `word::compare::inside` meets its contract: both words are judged first, and then the cells decide.
-use borrow.Author.Rules.{rules}
 use Rattle.word.specs.Member.{Inside}
 use Rattle.word.proofs.Verdicts.{comparison_refused, comparison_asks, comparison_done}
 use Rattle.word.proofs.compare.inside.Goals as goal

@@ -1,6 +1,5 @@
 -- `word::negate::negate` meets its contract: the word is judged first, and a real one is turned.
 use mathlib.Core.Path.{refl, sym, ◌∙◌}
-use borrow.Author.Rules.{rules}
 use Rattle.call.proofs.Answered.{answers_done, refused_as_said}
 use Rattle.word.proofs.Verdicts.{range_format, range_real, range_done}
 use Rattle.word.proofs.negate.negate.Goals as goal

@@ -1,5 +1,4 @@
 -- `cell::inner::add::add_ranges` meets its contract: the answer is the sum of the cells of both ranges (`SumRange`).
-use borrow.Author.Rules.{rules}
 use Rattle.cell.proofs.SumRange.{sum_found}
 use Rattle.word.proofs.RealWords.{cells_at_hand}
 use Rattle.cell.proofs.inner.add.add_ranges.Goals as goal

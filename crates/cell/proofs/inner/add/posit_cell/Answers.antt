@@ -6,7 +6,6 @@ use Rattle.posit.proofs.Mirror.{nar_is_half}
 use Rattle.posit.proofs.Patterns.{some_bit}
 use Rattle.word.proofs.Tiles.{half_small}
 use Rattle.cell.proofs.CellFrom.{number_small}
-use borrow.Author.Rules.{rules}
 use Rattle.cell.proofs.inner.add.posit_cell.Goals as goal
 
 pub overflow_add-result : goal.overflow_add-result

@@ -1,5 +1,4 @@
 -- `cell::inner::add::subtract_ranges` meets its contract: the answer is the difference of the left range's cells and the right word (`Difference`).
-use borrow.Author.Rules.{rules}
 use Rattle.word.proofs.RealWords.{cells_at_hand}
 use Rattle.cell.proofs.Difference.{difference_found}
 use Rattle.cell.proofs.inner.add.subtract_ranges.Goals as goal

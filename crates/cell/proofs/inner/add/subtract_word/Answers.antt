@@ -1,6 +1,4 @@
 -- `cell::inner::add::subtract_word` meets its contract: the negated range has the cells of the negatives (`Difference`).
-use mathlib.Core.Path.{ap, ◌∙◌}
-use borrow.Author.Rules.{rules}
 use Rattle.word.proofs.RealWords.{cells_at_hand}
 use Rattle.cell.proofs.Difference.{negative_word}
 use Rattle.cell.proofs.inner.add.subtract_word.Goals as goal

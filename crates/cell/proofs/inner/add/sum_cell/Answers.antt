@@ -2,7 +2,6 @@
 use mathlib.Core.Path.{◌∙◌}
 use native.Mathlib.Omega.{arith}
 use Rattle.cell.proofs.SumCells.{zero_left, zero_right, nothing_cell, something_known, something_fits, something_small, something_cell, signed_sum}
-use borrow.Author.Rules.{rules}
 use Rattle.cell.proofs.inner.add.sum_cell.Goals as goal
 
 pub returns-then-p-eq0 : goal.returns-then-p-eq0

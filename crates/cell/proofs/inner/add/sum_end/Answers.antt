@@ -1,7 +1,6 @@
 -- `cell::inner::add::sum_end` meets its contract: its tests are whether the bounds at the two cells are there and closed (`SumCells`).
 use native.Mathlib.Omega.{arith}
 use Rattle.cell.proofs.SumCells.{end_left, end_right, end_finite, end_found, marks_small, moved_small}
-use borrow.Author.Rules.{rules}
 use Rattle.cell.proofs.inner.add.sum_end.Goals as goal
 
 pub returns-then-x-top : goal.returns-then-x-top

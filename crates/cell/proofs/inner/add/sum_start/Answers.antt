@@ -1,7 +1,6 @@
 -- `cell::inner::add::sum_start` meets its contract: its tests are whether the bounds at the two cells are there and closed (`SumCells`).
 use native.Mathlib.Omega.{arith}
 use Rattle.cell.proofs.SumCells.{start_left, start_right, start_finite, start_found, marks_small, moved_small, cell_small}
-use borrow.Author.Rules.{rules}
 use Rattle.cell.proofs.inner.add.sum_start.Goals as goal
 
 pub returns-then-x-eq0 : goal.returns-then-x-eq0

@@ -1,6 +1,5 @@
 -- `cell::inner::add::total_cell` meets its contract: the codes say what the posits are, so their exact sum has its step.
 use Rattle.cell.proofs.ResultCell.{known_fits, known_cell, same_total}
-use borrow.Author.Rules.{rules}
 use Rattle.cell.proofs.inner.add.total_cell.Goals as goal
 
 pub above_zero-requires : goal.above_zero-requires

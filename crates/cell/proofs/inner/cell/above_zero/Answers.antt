@@ -1,7 +1,6 @@
 -- `cell::inner::cell::above_zero` meets its contract: the numbers are small.
 use native.Mathlib.Omega.{arith}
 use Rattle.word.proofs.Tiles.{half_small}
-use borrow.Author.Rules.{rules}
 use Rattle.cell.proofs.inner.cell.above_zero.Goals as goal
 
 pub overflow_add-result : goal.overflow_add-result

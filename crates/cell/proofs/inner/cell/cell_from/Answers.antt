@@ -1,6 +1,5 @@
 -- `cell::inner::cell::cell_from` meets its contract: the gap is counted by the product of two marks, not odd and not met.
 use native.Mathlib.Omega.{arith}
-use borrow.Author.Rules.{rules}
 use lib.Pow.{pow_pos}
 use Rattle.word.proofs.Tiles.{half_small}
 use Rattle.cell.proofs.CellFrom.{mark_fits, gap_fits, gives_cell}

@@ -1,6 +1,5 @@
 -- `cell::inner::cell::cell_of` meets its contract: the floor of the word's lower end is that of everything the word knows (`CellFrom`).
 use native.Mathlib.Omega.{arith}
-use borrow.Author.Rules.{rules}
 use Rattle.posit.proofs.RoundKnown.{pattern_fits}
 use Rattle.cell.proofs.CellFrom.{from_fits_as, found_each}
 use Rattle.cell.proofs.inner.cell.cell_of.Goals as goal

@@ -1,7 +1,6 @@
 -- `cell::inner::cell::end_posit` meets its contract: it computes `patternAt` itself.
 use Prim.Native.Nat.{◌/◌}
 use native.Mathlib.Omega.{arith}
-use borrow.Author.Rules.{rules}
 use lib.Pow.{pow_pos}
 use Rattle.cell.proofs.CellFrom.{posit_fits}
 use Rattle.cell.proofs.inner.cell.end_posit.Goals as goal

@@ -1,5 +1,4 @@
 -- `cell::inner::cell::with_sign` meets its contract: the cells of the negatives are counted from the other end.
-use borrow.Author.Rules.{rules}
 use Rattle.cell.proofs.CellFrom.{mark_fits, gives_sign}
 use Rattle.cell.proofs.inner.cell.with_sign.Goals as goal
 

@@ -2,7 +2,6 @@
 use lib.Dec.{leb}
 use Rattle.cell.proofs.CellFrom.{mark_fits}
 use Rattle.cell.proofs.SumCells.{size_fits, signed_of}
-use borrow.Author.Rules.{rules}
 use Rattle.cell.proofs.inner.signed.signed_form.Goals as goal
 
 pub chosen-requires : goal.chosen-requires

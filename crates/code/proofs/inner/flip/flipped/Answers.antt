@@ -1,5 +1,4 @@
 -- `code::inner::flip::flipped` meets its contract: 0 less the mark, wrapping, is no bit or every bit.
-use Rattle.std.proofs.Common.{rules}
 use Rattle.code.proofs.Flip.{flipped_by}
 use Rattle.code.proofs.inner.flip.flipped.Goals as goal
 

@@ -1,6 +1,6 @@
 -- `code::inner::form::code_of` meets its contract: the pattern or its distance from NaR's is a whole number of few digits, so the double is exact, and its
 -- bits give regime and tail (`Form`).
-use Rattle.std.proofs.Common.{◌∙◌, arith, rules}
+use Rattle.std.proofs.Common.{◌∙◌, arith}
 use Rattle.code.proofs.Form.{bit_small, twice_small, turned_small, machine_fits, folds}
 use Rattle.code.proofs.inner.form.code_of.Goals as goal
 

@@ -1,5 +1,5 @@
 -- `code::inner::form::ones_from` meets its contract: what passes the word is dropped before the addition as after it.
-use Rattle.std.proofs.Common.{◌∙◌, arith, rules}
+use Rattle.std.proofs.Common.{◌∙◌, arith}
 use Rattle.code.proofs.Form.{stretched_most}
 use Rattle.code.proofs.inner.form.ones_from.Goals as goal
 

@@ -1,5 +1,5 @@
 -- `code::inner::form::zeros_from` meets its contract: width and exponent size are small, so that every step fits.
-use Rattle.std.proofs.Common.{refl, arith, rules}
+use Rattle.std.proofs.Common.{refl, arith}
 use Rattle.code.proofs.Form.{stretched_least, stretched_most}
 use Rattle.code.proofs.inner.form.zeros_from.Goals as goal
 

@@ -1,5 +1,5 @@
 -- `code::inner::raised::raised` meets its contract: the product is the double of a code twenty-six scales below y, and the greater double is that of the greater code.
-use Rattle.std.proofs.Common.{arith, rules}
+use Rattle.std.proofs.Common.{arith}
 use Rattle.code.proofs.CodeBits.{plain_number}
 use Rattle.code.proofs.Higher.{below_number, raised_number, raised_bits}
 use Rattle.code.proofs.inner.raised.raised.Goals as goal

@@ -1,6 +1,6 @@
 -- `code::inner::step::step_of` meets its contract: the word's regime and tail give the pattern whose cut is the floor of what the code tells (`Stepping`),
 -- and nothing wraps on the way.
-use Rattle.std.proofs.Common.{◌/◌, ◌%◌, ◌^◌, ◌<◌, ltb, arith, pow_pos, rules}
+use Rattle.std.proofs.Common.{◌/◌, ◌%◌, ◌^◌, ◌<◌, ltb, arith, pow_pos}
 use Rattle.code.proofs.Cutting.{few_exponents, lowest_below, word_small, turned_small, kept_small}
 use Rattle.code.proofs.Stepping.{step_is, step_small}
 use Rattle.code.proofs.inner.step.step_of.Goals as goal

@@ -1,5 +1,5 @@
 -- `code::inner::sum::signed_sum` meets its contract: codes that are brought near to each other add exactly as doubles, and the bits of their sum are its sign and its code.
-use Rattle.std.proofs.Common.{arith, rules}
+use Rattle.std.proofs.Common.{arith}
 use Rattle.code.proofs.CodeBits.{code_number}
 use Rattle.code.proofs.SumCode.{both_held, brought_least, brought_less, sign_held, signed_number, signed_none, signed_some}
 use Rattle.code.proofs.inner.sum.signed_sum.Goals as goal

@@ -1,5 +1,4 @@
 -- `posit::inner::add::add_finite` meets its contract: what the exact sum is, is rounded, and no sum at all is 0.
-use Rattle.std.proofs.Common.{rules}
 use Rattle.posit.specs.Magnitudes.{SumOf}
 use Rattle.posit.proofs.SmallScale.{kept}
 use Rattle.posit.proofs.Added.{nothing_rounds, something_words, something_rounds}

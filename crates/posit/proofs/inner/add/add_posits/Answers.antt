@@ -1,5 +1,4 @@
 -- `posit::inner::add::add_posits` meets its contract: each case of the decoded operands is a law of `Added`.
-use Rattle.std.proofs.Common.{rules}
 use Rattle.posit.proofs.SmallScale.{kept_small}
 use Rattle.posit.proofs.Operated.{is_nar, is_zero, is_finite, is_small}
 use Rattle.posit.proofs.Added.{plus_nar_left, plus_nar_right, zero_plus, plus_zero, numbers_plus}

@@ -1,5 +1,4 @@
 -- `posit::inner::add::subtract_posits` meets its contract: the sum with the negated posit is the difference.
-use Rattle.std.proofs.Common.{rules}
 use Rattle.posit.proofs.Mirror.{negated_fits}
 use Rattle.posit.proofs.Added.{negated_plus}
 use Rattle.posit.proofs.inner.add.subtract_posits.Goals as goal

@@ -1,5 +1,5 @@
 -- `posit::inner::choose::chosen` meets its contract: no difference added leaves the first, and one, wrapping, comes to the second.
-use Rattle.std.proofs.Common.{◌≡◌, ℕ, zero, suc, ◌+◌, ◌*◌, ◌%◌, ◌^◌, ◌<◌, ◌≤◌, ap, ◌∙◌, mod-eq_of_lt, add_comm, arith, rules}
+use Rattle.std.proofs.Common.{◌≡◌, ℕ, zero, suc, ◌+◌, ◌*◌, ◌%◌, ◌^◌, ◌<◌, ◌≤◌, ◌∙◌, arith}
 use Rattle.posit.specs.Parts.{chosen_by}
 use Rattle.posit.proofs.inner.choose.chosen.Goals as goal
 

@@ -1,5 +1,4 @@
 -- `posit::inner::divide::divide_posits` meets its contract: each case of the decoded operands is a law of `Divided`.
-use Rattle.std.proofs.Common.{rules}
 use Rattle.posit.proofs.SmallScale.{kept_small}
 use Rattle.posit.proofs.Operated.{is_nar, is_zero, is_finite, is_small}
 use Rattle.posit.proofs.Divided.{over_nar_left, over_nar_right, over_zero, zero_over, numbers_over}

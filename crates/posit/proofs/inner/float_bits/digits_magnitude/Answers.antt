@@ -1,5 +1,5 @@
 -- `posit::inner::float_bits::digits_magnitude` meets its contract: the digits, moved up where they are few, are known exactly.
-use Rattle.std.proofs.Common.{arith, rules}
+use Rattle.std.proofs.Common.{arith}
 use Rattle.posit.proofs.FloatRead.{few_digits, many_digits}
 use Rattle.posit.proofs.inner.float_bits.digits_magnitude.Goals as goal
 

@@ -1,5 +1,5 @@
 -- `posit::inner::float_bits::float_of` meets its contract: sign, exponent and digits are put at their places, and reading them gives the number back.
-use Rattle.std.proofs.Common.{arith, rules}
+use Rattle.std.proofs.Common.{arith}
 use Rattle.posit.proofs.FloatMade.{biased_sum_fits, biased_fits, highest_few, exponent_most, leading, no_more, size_fits, positive_made, negative_made, number_bits}
 use Rattle.posit.proofs.inner.float_bits.float_of.Goals as goal
 

@@ -1,5 +1,5 @@
 -- `posit::inner::float_bits::float_parts` meets its contract: its tests are those of the float's exponent field, and what is left are its digits.
-use Rattle.std.proofs.Common.{arith, rules}
+use Rattle.std.proofs.Common.{arith}
 use Rattle.posit.proofs.FloatRead.{ones_parts, nothing_parts, small_parts, normal_parts}
 use Rattle.posit.proofs.inner.float_bits.float_parts.Goals as goal
 

@@ -1,6 +1,5 @@
 -- `posit::inner::float_bits::from_pattern` meets its contract: an infinity gives NaR, 0 gives 0, and what is left is known exactly by its digits, and so rounded.
 use lib.Ieee.{Float, binary64, of_bits}
-use Rattle.std.proofs.Common.{rules}
 use Rattle.posit.proofs.FloatRead.{is_infinite, is_nothing, is_number, no_number_rounded, zero_rounded, number_rounded}
 use Rattle.posit.proofs.inner.float_bits.from_pattern.Goals as goal
 use Rattle.posit.proofs.inner.float_bits.from_pattern.Goals.{Start}

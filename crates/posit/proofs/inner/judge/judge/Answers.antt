@@ -1,6 +1,5 @@
 -- `posit::inner::judge::judge` meets its contract: its tests are those of the verdict, in their order.
-use Rattle.std.proofs.Common.{sym, ◌∙◌, arith, rules}
-use borrow.Author.Tests.{not-true, not-false}
+use Rattle.std.proofs.Common.{sym, ◌∙◌, arith}
 use Rattle.call.proofs.Said.{says}
 use Rattle.posit.proofs.Verdicts.{format_of, two_outside, two_left, two_right, two_done}
 use Rattle.posit.proofs.inner.judge.judge.Goals as goal

@@ -1,8 +1,8 @@
 -- `posit::inner::locate::behind_run` meets its contract: the mark is 0 below the middle and 1 from it on (`Chosen`), and each choice is then the run's.
-use Rattle.std.proofs.Common.{◌≡◌, ℕ, ◌+◌, ◌-◌, ◌*◌, ◌/◌, ◌^◌, ◌<◌, ◌≤◌, ap, ◌∙◌, ap₂, subst₂, arith, pow_mono, rules}
+use Rattle.std.proofs.Common.{◌≡◌, ℕ, ◌+◌, ◌-◌, ◌*◌, ◌^◌, ◌≤◌, ap, ◌∙◌, ap₂, subst₂, arith}
 use Rattle.posit.specs.Parts.{Cut}
 use Rattle.posit.proofs.Bounds.{power_small, double_within}
-use Rattle.posit.proofs.Chosen.{ones_mark, mark_of_zeros, mark_of_ones, mark_small, behind_is_few, either_at_most, first_of_two, second_of}
+use Rattle.posit.proofs.Chosen.{ones_mark, mark_of_zeros, mark_of_ones, behind_is_few, either_at_most, first_of_two, second_of}
 use Rattle.posit.proofs.inner.locate.behind_run.Goals as goal
 use Rattle.posit.proofs.inner.locate.behind_run.Goals.{After-chosen-w, After-cut, After-power32, Start}
 

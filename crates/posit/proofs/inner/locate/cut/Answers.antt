@@ -1,5 +1,5 @@
 -- `posit::inner::locate::cut` meets its contract: the power that divides is not 0, and what is left of x has at most 16 bits.
-use Rattle.std.proofs.Common.{◌-◌, refl, arith, pow_pos, rules}
+use Rattle.std.proofs.Common.{◌-◌, refl, arith, pow_pos}
 use Rattle.posit.proofs.Bounds.{tail_small}
 use Rattle.posit.proofs.inner.locate.cut.Goals as goal
 

@@ -1,5 +1,5 @@
 -- `posit::inner::locate::locate` meets its contract: each way out is a law of `LocatesBy`, and every number on the way fits its word (`Bounds`).
-use Rattle.std.proofs.Common.{◌≡◌, ℕ, ◌+◌, ◌-◌, ◌*◌, ◌/◌, ◌%◌, ◌^◌, ◌<◌, ◌≤◌, ◌⊎◌, sym, refl, ◌∙◌, subst, inl, inr, arith, pow_pos, pow_mono, rules, ne_eqb}
+use Rattle.std.proofs.Common.{◌≡◌, ℕ, ◌+◌, ◌-◌, ◌*◌, ◌/◌, ◌%◌, ◌^◌, ◌<◌, ◌≤◌, ◌⊎◌, sym, refl, ◌∙◌, subst, inl, inr, arith, pow_pos, pow_mono, ne_eqb}
 use Rattle.posit.proofs.Bounds.{high_at_least, high_below, lowest_small, twice_small, exponent_fits, behind_fits}
 use Rattle.posit.proofs.Place.{behind}
 use Rattle.posit.proofs.Bracketed.{lowest}

@@ -1,5 +1,5 @@
 -- `posit::inner::magnitude::round_magnitude` meets its contract: the floor of the word's lower end and the mark give the rounding (`RoundKnown`).
-use Rattle.std.proofs.Common.{arith, rules}
+use Rattle.std.proofs.Common.{arith}
 use Rattle.posit.proofs.RoundKnown.{pattern_fits, lost_fits, lost_each, kept_fits, kept_each}
 use Rattle.posit.proofs.inner.magnitude.round_magnitude.Goals as goal
 

@@ -1,5 +1,5 @@
 -- `posit::inner::multiply::multiply_posits` meets its contract: each case of the decoded operands is a law of `Multiplied`.
-use Rattle.std.proofs.Common.{sym, ◌∙◌, rules}
+use Rattle.std.proofs.Common.{sym, ◌∙◌}
 use Rattle.posit.proofs.SmallScale.{kept_small}
 use Rattle.posit.proofs.Operated.{is_nar, is_zero, is_finite, is_small}
 use Rattle.posit.proofs.Multiplied.{times_nar_left, times_nar_right, zero_times, times_zero, numbers_times}

@@ -1,5 +1,5 @@
 -- `posit::inner::power::negated` meets its contract: a difference that wraps at 32 bits, cut to n bits, wraps at n bits.
-use Rattle.std.proofs.Common.{ℕ, ◌%◌, ap, ◌∙◌, arith, rules}
+use Rattle.std.proofs.Common.{ℕ, ◌%◌, ap, ◌∙◌, arith}
 use Rattle.posit.proofs.Machine.{wraps_at}
 use Rattle.posit.proofs.inner.power.negated.Goals as goal
 

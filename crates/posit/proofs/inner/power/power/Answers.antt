@@ -1,6 +1,5 @@
 -- `posit::inner::power::power` meets its contract: a power of two below the word stays what it is.
 use Rattle.posit.proofs.Machine.{power_fits}
-use Rattle.std.proofs.Common.{rules}
 use Rattle.posit.proofs.inner.power.power.Goals as goal
 
 pub returns : goal.returns

@@ -1,5 +1,4 @@
 -- `posit::inner::product::product` meets its contract: the words hold the exact product, of small forms and so with room for the bits below it.
-use Rattle.std.proofs.Common.{rules}
 use Rattle.posit.proofs.SmallScale.{sum_fits, cast_fits, cast_is}
 use Rattle.posit.proofs.KnownProduct.{product_fits, padded_fits, scales_fit, product_known}
 use Rattle.posit.proofs.inner.product.product.Goals as goal

@@ -1,6 +1,5 @@
 -- `posit::inner::quotient::quotient` meets its contract: the words hold the quotient down to 47 bits more than the dividend has, and the mark is set
 -- exactly where a remainder is left.
-use Rattle.std.proofs.Common.{rules}
 use Rattle.posit.proofs.SmallScale.{sum_fits, cast_fits, cast_is}
 use Rattle.posit.proofs.KnownQuotient.{scale_fits, quotient_known}
 use Rattle.posit.proofs.inner.quotient.quotient.Goals as goal

@@ -1,5 +1,5 @@
 -- `posit::inner::round::rounded` meets its contract: at the two ends the answer is settled, and between them one sum has every case (`to_step`).
-use Rattle.std.proofs.Common.{ℕ, ◌+◌, ◌-◌, ◌*◌, ◌/◌, ◌%◌, ◌^◌, ◌<◌, ◌≤◌, sym, arith, pow_pos, pow_mono, rules}
+use Rattle.std.proofs.Common.{◌-◌, ◌*◌, ◌/◌, ◌%◌, ◌≤◌, sym, arith, pow_pos, pow_mono}
 use mir.Val.{bool_byte}
 use Rattle.posit.proofs.RoundedOf.{to_min_pos, at_max_pos, to_step, stays_small, step_small}
 use Rattle.posit.proofs.inner.round.rounded.Goals as goal

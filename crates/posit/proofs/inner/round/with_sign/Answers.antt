@@ -1,5 +1,4 @@
 -- `posit::inner::round::with_sign` meets its contract: the sign chooses between the pattern and its negation.
-use Rattle.std.proofs.Common.{rules}
 use Rattle.posit.proofs.inner.round.with_sign.Goals as goal
 
 pub returns-then-negative : goal.returns-then-negative

@@ -1,5 +1,5 @@
 -- `posit::inner::sum::difference` meets its contract: the larger size loses the smaller one and gives the sign, and where nothing is left the difference is 0.
-use Rattle.std.proofs.Common.{sym, ◌∙◌, ⊎_elim, le_of_lt, arith, rules, ltb-false, ltb-true}
+use Rattle.std.proofs.Common.{sym, ◌∙◌, le_of_lt, arith, ltb-false, ltb-true}
 use Rattle.posit.proofs.TwoWords.{some_low, some_high}
 use Rattle.posit.proofs.Summed.{left_over, at_most_left, first_smaller, first_larger, both_equal}
 use Rattle.posit.proofs.inner.sum.difference.Goals as goal

@@ -1,5 +1,5 @@
 -- `posit::inner::unpack::odd_form` meets its contract: the significand over 2 to its trailing zeros is odd, and those zeros go to the scale.
-use Rattle.std.proofs.Common.{arith, pow_pos, rules}
+use Rattle.std.proofs.Common.{arith, pow_pos}
 use Rattle.posit.proofs.OddForm.{zeros_few, up_less, lift_less, down_less, difference_fits, odd_form}
 use Rattle.posit.proofs.inner.unpack.odd_form.Goals as goal
 

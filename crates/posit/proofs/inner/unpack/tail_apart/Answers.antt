@@ -1,5 +1,5 @@
 -- `posit::inner::unpack::tail_apart` meets its contract: a tail below 2^15 and a regime below 2^6 stay small times 2^es, so nothing wraps.
-use Rattle.std.proofs.Common.{refl, rules}
+use Rattle.std.proofs.Common.{refl}
 use Rattle.posit.proofs.Apart.{tail_small, regime_small, sum_small, significand_small}
 use Rattle.posit.proofs.inner.unpack.tail_apart.Goals as goal
 

@@ -1,5 +1,5 @@
 -- `posit::inner::unpack::take_apart` meets its contract: the first bit says which run it is, and the laws of `Apart` hold for either.
-use Rattle.std.proofs.Common.{ℕ, ◌+◌, ◌-◌, ◌*◌, ◌/◌, ◌^◌, ◌<◌, ◌≤◌, mod-lt, arith, pow_pos, rules}
+use Rattle.std.proofs.Common.{◌+◌, ◌-◌, ◌*◌, ◌/◌, ◌≤◌, mod-lt, arith, pow_pos}
 use Rattle.posit.proofs.Apart.{FirstBit, first_bit, bit_small, none_missing, closed_early, parts_by_run, regime_small, scale_small, all_ones_parts}
 use Rattle.posit.proofs.Chosen.{either_at_most}
 use Rattle.posit.proofs.inner.unpack.take_apart.Goals as goal

@@ -1,5 +1,5 @@
 -- `posit::inner::unpack::unpack` meets its contract: the patterns are 0, NaR, those below NaR, and those above it, which are negative.
-use Rattle.std.proofs.Common.{ℕ, ◌-◌, ◌/◌, ◌^◌, ◌<◌, ◌≤◌, arith, pow_pos, rules}
+use Rattle.std.proofs.Common.{◌-◌, ◌/◌, arith, pow_pos}
 use Rattle.posit.proofs.Apart.{FirstBit, first_bit, bit_small}
 use Rattle.posit.proofs.OddForm.{size_is_positive, unpacks_by_bit}
 use Rattle.posit.proofs.inner.unpack.unpack.Goals as goal

@@ -1,5 +1,5 @@
 -- `posit::inner::wide::narrowed` meets its contract: what is cut off below the word's 62 bits is marked, and a narrow number is moved up.
-use Rattle.std.proofs.Common.{◌^◌, ◌<◌, le-add_right, pos_of_ne-zero, arith, pow_pos, rules}
+use Rattle.std.proofs.Common.{◌^◌, ◌<◌, le-add_right, pos_of_ne-zero, arith, pow_pos}
 use mir.ValLaws.{Fits-le}
 use Rattle.posit.proofs.KnownWide.{narrow_low, narrow_word, narrow_two, highest_small, top_fits}
 use Rattle.posit.proofs.inner.wide.narrowed.Goals as goal

@@ -1,5 +1,5 @@
 -- `posit::inner::wide::wide_sum` meets its contract: the words are added, and one is carried where the low words together pass the word's end.
-use Rattle.std.proofs.Common.{le-add_right, rules}
+use Rattle.std.proofs.Common.{le-add_right}
 use mir.ValLaws.{Fits-le}
 use Rattle.posit.proofs.TwoWords.{highs_fit}
 use Rattle.posit.proofs.inner.wide.wide_sum.Goals as goal

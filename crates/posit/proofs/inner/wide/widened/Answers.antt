@@ -1,5 +1,5 @@
 -- `posit::inner::wide::widened` meets its contract: a number of 14 bits stays within a word below 2^32 and from 2^64 on, and between them it is cut at the end of the low word.
-use Rattle.std.proofs.Common.{arith, pow_pos, rules}
+use Rattle.std.proofs.Common.{arith, pow_pos}
 use Rattle.posit.proofs.TwoWords.{moved_fits, moved, cut_fits, cut_number}
 use Rattle.posit.proofs.inner.wide.widened.Goals as goal
 

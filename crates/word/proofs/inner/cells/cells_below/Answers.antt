@@ -1,7 +1,6 @@
 -- `word::inner::cells::cells_below` meets its contract: no cells are below any and any are below none; others are where the last of the left comes before the first of the right.
 use mathlib.Core.Logic.{inl, inr}
 use native.Mathlib.Omega.{arith}
-use borrow.Author.Rules.{rules}
 use Rattle.word.proofs.Replies.{says_yes, says_lt, below_spans}
 use Rattle.word.proofs.inner.cells.cells_below.Goals as goal
 

@@ -1,7 +1,6 @@
 -- `word::inner::cells::cells_inside` meets its contract: no cells are inside any, and others are where neither end lies beyond.
 use mathlib.Core.Logic.{inl, inr}
 use native.Mathlib.Omega.{arith}
-use borrow.Author.Rules.{rules}
 use Rattle.word.proofs.Replies.{says_yes, says_no, says_le, inside_spans}
 use Rattle.word.proofs.inner.cells.cells_inside.Goals as goal
 

@@ -1,6 +1,5 @@
 -- `word::inner::cells::cells_meet` meets its contract: they do where both have cells and neither lies wholly before the other.
 use native.Mathlib.Omega.{arith}
-use borrow.Author.Rules.{rules}
 use Rattle.word.proofs.Replies.{says_no, says_le, meets_spans}
 use Rattle.word.proofs.inner.cells.cells_meet.Goals as goal
 

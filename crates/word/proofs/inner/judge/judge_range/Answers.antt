@@ -1,7 +1,5 @@
 -- `word::inner::judge::judge_range` meets its contract: within the limits the word's own tests are left.
 use mathlib.Core.Path.{sym, ◌∙◌}
-use borrow.Author.Rules.{rules}
-use borrow.Author.Tests.{not-true, not-false}
 use Rattle.posit.proofs.Verdicts.{format_of}
 use Rattle.call.proofs.Said.{says, says_by}
 use Rattle.word.proofs.Verdicts.{range_outside, range_inside}

@@ -1,5 +1,4 @@
 -- `word::inner::judge::judge_ranges` meets its contract: the verdict is that of both operands taken apart.
-use borrow.Author.Rules.{rules}
 use Rattle.word.proofs.Taking.{both_refused, both_done}
 use Rattle.word.proofs.inner.judge.judge_ranges.Goals as goal
 

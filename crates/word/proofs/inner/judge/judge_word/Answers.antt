@@ -1,5 +1,4 @@
 -- `word::inner::judge::judge_word` meets its contract: the word is refused by the same number at every place.
-use borrow.Author.Rules.{rules}
 use Rattle.word.proofs.Taking.{says_refused, says_done}
 use Rattle.word.proofs.inner.judge.judge_word.Goals as goal
 

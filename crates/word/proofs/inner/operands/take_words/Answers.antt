@@ -1,7 +1,5 @@
 -- `word::inner::operands::take_words` meets its contract: the format, the left word and the right word are tested in this order.
 use mathlib.Core.Path.{sym, ◌∙◌}
-use borrow.Author.Rules.{rules}
-use borrow.Author.Tests.{not-true, not-false}
 use Rattle.posit.proofs.Verdicts.{format_of}
 use Rattle.word.proofs.Taking.{both_outside, left_refused, right_refused, both_pass}
 use Rattle.word.proofs.inner.operands.take_words.Goals as goal

@@ -1,6 +1,5 @@
 -- `word::inner::span::end_tile_at` meets its contract: it is the definition, over half the tiles; the topmost cell comes out as an open NaR by itself.
 use native.Mathlib.Omega.{arith}
-use borrow.Author.Rules.{rules}
 use Rattle.posit.proofs.Mirror.{power_wider}
 use Rattle.word.proofs.Tiles.{half_small, half_large, end_tile_is}
 use Rattle.word.proofs.inner.span.end_tile_at.Goals as goal

@@ -1,6 +1,5 @@
 -- `word::inner::span::joined` meets its contract: two tiles of at most 17 bits fit one word.
 use native.Mathlib.Omega.{arith}
-use borrow.Author.Rules.{rules}
 use Rattle.word.proofs.Tiles.{joined_small}
 use Rattle.word.proofs.inner.span.joined.Goals as goal
 

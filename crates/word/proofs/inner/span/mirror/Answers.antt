@@ -1,5 +1,4 @@
 -- `word::inner::span::mirror` meets its contract: its test is that of the definition, and no cell lies above the top one.
-use borrow.Author.Rules.{rules}
 use borrow.Author.Tests.{lt-ltb, le-ltb}
 use Rattle.word.proofs.inner.span.mirror.Goals as goal
 

@@ -1,6 +1,5 @@
 -- `word::inner::span::no_cells` meets its contract: what it makes is the definition.
 use native.Mathlib.Omega.{arith}
-use borrow.Author.Rules.{rules}
 use Rattle.posit.proofs.Mirror.{power_wider}
 use Rattle.word.proofs.Tiles.{half_small}
 use Rattle.word.proofs.inner.span.no_cells.Goals as goal

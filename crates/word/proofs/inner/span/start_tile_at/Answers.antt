@@ -1,6 +1,5 @@
 -- `word::inner::span::start_tile_at` meets its contract: it is the definition, over half the tiles.
 use native.Mathlib.Omega.{arith}
-use borrow.Author.Rules.{rules}
 use lib.Pow.{pow_pos}
 use Rattle.posit.proofs.Mirror.{power_wider}
 use Rattle.word.proofs.Tiles.{half_small, start_tile_is}

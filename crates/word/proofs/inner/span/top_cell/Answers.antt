@@ -1,6 +1,5 @@
 -- `word::inner::span::top_cell` meets its contract: the tiles are twice 2^n.
 use native.Mathlib.Omega.{arith}
-use borrow.Author.Rules.{rules}
 use Rattle.posit.proofs.Mirror.{power_wider}
 use Rattle.word.proofs.Tiles.{half_small}
 use lib.Pow.{pow_pos}

@@ -1,6 +1,5 @@
 -- `word::inner::span::word_of` meets its contract: no cells give the empty word, and others the tiles of their first and last cell.
 use native.Mathlib.Omega.{arith}
-use borrow.Author.Rules.{rules}
 use borrow.Author.Tests.{lt-ltb, le-ltb}
 use Rattle.posit.proofs.Mirror.{power_wider}
 use Rattle.word.proofs.Places.{tiled}

@@ -1,7 +1,6 @@
 -- `word::inner::turn::is_empty` meets its contract: it tests the three facts in turn.
 use Prim.Native.Nat.{◌+◌}
 use native.Mathlib.Omega.{arith}
-use borrow.Author.Rules.{rules}
 use Rattle.word.proofs.Tiles.{half_small, open_half}
 use Rattle.word.proofs.Replies.{itself, says_no, says_ne}
 use Rattle.word.proofs.inner.turn.is_empty.Goals as goal

@@ -2,7 +2,6 @@
 use mathlib.Core.Path.{sym, ◌∙◌}
 use mathlib.Core.Bool.{true≢false}
 use native.Mathlib.Omega.{arith}
-use borrow.Author.Rules.{rules}
 use Rattle.posit.proofs.Mirror.{power_wider}
 use Rattle.word.proofs.Tiles.{half_large}
 use Rattle.word.proofs.Turning.{start_there, end_there, start_turned_there, end_turned_there, gives_empty, gives_round}

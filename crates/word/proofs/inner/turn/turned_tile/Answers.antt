@@ -1,7 +1,6 @@
 -- `word::inner::turn::turned_tile` meets its contract: it is the definition, and a negated posit is one of n bits.
 use Prim.Native.Nat.{◌/◌}
 use native.Mathlib.Omega.{arith}
-use borrow.Author.Rules.{rules}
 use Rattle.posit.proofs.Mirror.{power_wider}
 use Rattle.word.proofs.Tiles.{negated_small}
 use Rattle.word.proofs.inner.turn.turned_tile.Goals as goal

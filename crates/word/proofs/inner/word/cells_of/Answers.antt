@@ -1,7 +1,6 @@
 -- `word::inner::word::cells_of` meets its contract: no tile of a real range is a closed NaR, and then the turned tiles give its cells (`Taking`).
 use mathlib.Core.Path.{◌∙◌}
 use native.Mathlib.Omega.{arith}
-use borrow.Author.Rules.{rules}
 use Rattle.posit.proofs.Mirror.{power_wider}
 use Rattle.word.proofs.Places.{start_tile_of_word}
 use Rattle.word.proofs.Taking.{Opened, half_fits, end_there, turned_there, real_start, real_end, some_cells, none_cells}

@@ -1,5 +1,4 @@
 -- `word::inner::word::end_tile` meets its contract: a tile has at most 17 bits.
-use borrow.Author.Rules.{rules}
 use lib.Pow.{pow_pos}
 use Rattle.word.proofs.Tiles.{end_tile_small}
 use Rattle.word.proofs.inner.word.end_tile.Goals as goal

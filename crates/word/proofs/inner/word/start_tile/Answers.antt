@@ -1,5 +1,4 @@
 -- `word::inner::word::start_tile` meets its contract: a word that fits has a start tile of at most 17 bits.
-use borrow.Author.Rules.{rules}
 use lib.Pow.{pow_pos}
 use Rattle.word.proofs.Tiles.{start_tile_small}
 use Rattle.word.proofs.inner.word.start_tile.Goals as goal

@@ -1,6 +1,5 @@
 -- `word::inner::word::take_word` meets its contract: each of its answers is a law of `Taking`, over the two tiles and half of all tiles.
 use native.Mathlib.Omega.{arith}
-use borrow.Author.Rules.{rules}
 use Rattle.word.proofs.Taking.{Opened, half_fits, end_there, turned_there, takes_large, takes_closed_start, takes_closed_end, takes_cells, takes_none, takes_turned}
 use Rattle.word.proofs.Tiles.{half_small, half_large}
 use Rattle.word.proofs.Places.{start_tile_of_word}

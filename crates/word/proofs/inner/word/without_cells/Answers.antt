@@ -1,5 +1,4 @@
 -- `word::inner::word::without_cells` meets its contract: its cells are those of no cell.
-use borrow.Author.Rules.{rules}
 use Rattle.word.proofs.inner.word.without_cells.Goals as goal
 
 pub returns : goal.returns
