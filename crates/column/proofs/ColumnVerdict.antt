@@ -12,7 +12,7 @@ use Rattle.call.proofs.Tests.{Passing, Refusal, gives_none, gives_one, gives_bot
 use Rattle.call.proofs.Blocks.{joined, joined_same, all_passing, RefusedAt, refused_exactly_at}
 use Rattle.word.proofs.WordTests.{word_place}
 use Rattle.column.proofs.Limits.{column_refusing, column_fits, column_passing}
-use Rattle.column.proofs.Pairs.{pair_refusing, pairs_refusing, pair_fits, fits_pair, pairs_joined, pair_passes}
+use Rattle.column.proofs.Pairs.{pair_refusing, pairs_refusing, fits_pair, pairs_joined, pair_passes}
 
 -- the tests of pair k
 abbrev pub pair_block : ℕ → ℕ → ℕ → List ℕ → List ℕ → ℕ → List Test

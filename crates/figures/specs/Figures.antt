@@ -1,5 +1,5 @@
 -- The bench figures of document 01, n = 8 and es = 2: one list, and one claim that each case has its answer by the definitions.
-use Rattle.std.specs.Prelude.{Bool, true, false, ◌&&◌, List, [], ◌∷◌, ℕ, ◌+◌, ◌*◌, T, eqb}
+use Rattle.std.specs.Prelude.{Bool, true, ◌&&◌, List, [], ◌∷◌, ℕ, ◌+◌, ◌*◌, eqb}
 use Rattle.call.specs.Operation.{plus, times, over}
 use Rattle.posit.specs.Arithmetic.{answer}
 use Rattle.word.specs.Word.{word_of}

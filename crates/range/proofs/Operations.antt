@@ -15,7 +15,6 @@ use Rattle.exact.specs.Fraction.{whole}
 use Rattle.posit.specs.Format.{Format, is_format}
 use Rattle.call.specs.Operation.{over, plus, minus, times, operation_test}
 use Rattle.call.specs.Verdict.{Test, first_hit}
-use Rattle.call.specs.Place.{right}
 use Rattle.posit.specs.Refusal.{format_test}
 use Rattle.call.proofs.FirstHit.{hits, passes, none_hits}
 use Rattle.call.proofs.Answered.{answers_done, answers_refused, refused_as_said}

@@ -12,7 +12,7 @@ use lib.Pow.{pow_pos}
 use lib.Ieee.{Float, nan, inf, fin, binary64, lt, ne, fits, is_nan, of_fields, of_bits, to_bits}
 use lib.Ieee.Bits.{of_bits-to_bits}
 use lib.Ieee.Compare.{differs_from_itself}
-use Rattle.exact.specs.Fraction.{Fraction, ◌≈◌, whole}
+use Rattle.exact.specs.Fraction.{Fraction, whole}
 use Rattle.exact.proofs.Order.{≤ᶠ_refl, ≈_sym}
 use Rattle.bound.specs.Order.{dual}
 use Rattle.bound.specs.Bound.{Bound, none, closed_at, Allows, map_bound}

@@ -12,7 +12,7 @@ use Rattle.bound.specs.Bound.{Bound, none, closed_at, open_at, map_bound}
 use Rattle.bound.specs.Extent.{Extent, empty, span}
 use Rattle.bound.specs.Above.{bound_above}
 use Rattle.bound.specs.Sign.{positive_part}
-use Rattle.bound.specs.Cell.{Grid, cell}
+use Rattle.bound.specs.Cell.{Grid}
 use Rattle.bound.specs.End.{OnGrid, start_place, end_place}
 use Rattle.bound.specs.Range.{Range, OnValues, range_extent, low, high}
 use Rattle.bound.specs.Fractions.{fractions, signed_fractions}

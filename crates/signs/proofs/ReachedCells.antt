@@ -7,7 +7,7 @@ use native.Mathlib.Omega.{arith}
 use native.Mathlib.Decide.{dec_le}
 use lib.Dec.{eqb, ltb, leb}
 use borrow.Author.Tests.{eq-eqb, ne_eqb, lt-ltb, le-ltb, le-leb, lt-leb}
-use Rattle.posit.specs.Format.{Format, nar}
+use Rattle.posit.specs.Format.{nar}
 use Rattle.posit.specs.Value.{value}
 use Rattle.posit.specs.Parts.{chosen_by}
 use Rattle.exact.proofs.Powers.{parity}

@@ -4,7 +4,7 @@ use Rattle.std.proofs.Common.{◌≡◌, ℕ, ◌+◌, ◌-◌, ◌*◌, ◌/◌
 use mathlib.Core.Bool.{beq}
 use native.Mathlib.Decide.{dec_lt}
 use lib.Bits.{bit_or}
-use Rattle.exact.specs.Fraction.{Fraction, ◌≈◌, ◌<ᶠ◌, whole, ◌+ᶠ◌}
+use Rattle.exact.specs.Fraction.{Fraction, ◌<ᶠ◌, whole, ◌+ᶠ◌}
 use Rattle.exact.proofs.Order.{≈_<ᶠ, ≈_sym, ≤ᶠ_of_<ᶠ}
 use Rattle.exact.proofs.Powers.{parity}
 use Rattle.exact.proofs.Product.{product_above_above}

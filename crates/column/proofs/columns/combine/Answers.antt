@@ -6,7 +6,6 @@ use mathlib.Core.List.{List, ◌++◌}
 use Prim.Native.Nat.{ℕ, ◌-◌}
 use native.Mathlib.Omega.{arith}
 use lib.ListN.{length, take, drop, length-take, length-drop}
-use borrow.Author.Rules.{rules}
 use Rattle.call.specs.Verdict.{first_hit}
 use Rattle.column.specs.Accepted.{ColumnFits}
 use Rattle.column.specs.Column.{column_limits, pairs_tests, verdict_of_columns, answers_of}

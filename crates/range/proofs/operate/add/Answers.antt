@@ -1,6 +1,5 @@
 -- `range::operate::add` meets its contract: the ranges are judged first, and the sum of real ones is the computed answer.
 use native.Mathlib.Omega.{arith}
-use borrow.Author.Rules.{rules}
 use Rattle.call.specs.Operation.{plus}
 use Rattle.range.proofs.Operations.{call_cells, call_refused, sum_done}
 use Rattle.range.proofs.operate.add.Goals as goal

@@ -1,7 +1,6 @@
 -- `range::operate::divide` meets its contract: the ranges are judged first, and the quotient of real ones without 0 in the divisor is the computed answer.
 use mathlib.Core.Path.{sym, ◌∙◌}
 use native.Mathlib.Omega.{arith}
-use borrow.Author.Rules.{rules}
 use Rattle.call.specs.Operation.{over}
 use Rattle.range.proofs.Operations.{call_asks, call_real_cells, call_refused, quotient_done, call_zero_divisor, zero_of_right}
 use Rattle.range.proofs.operate.divide.Goals as goal

@@ -1,6 +1,5 @@
 -- `range::operate::multiply` meets its contract: the ranges are judged first, and the product of real ones is the computed answer.
 use native.Mathlib.Omega.{arith}
-use borrow.Author.Rules.{rules}
 use Rattle.call.specs.Operation.{times}
 use Rattle.range.proofs.Operations.{call_real_cells, call_refused, product_done}
 use Rattle.range.proofs.operate.multiply.Goals as goal

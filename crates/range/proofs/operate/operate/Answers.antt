@@ -2,7 +2,6 @@
 use mathlib.Core.Path.{refl, sym, ◌∙◌}
 use Prim.Native.Nat.{◌<◌}
 use native.Mathlib.Omega.{arith}
-use borrow.Author.Rules.{rules}
 use Rattle.call.proofs.Answered.{answers_refused}
 use Rattle.range.proofs.Operations.{format_outside, number_unknown}
 use Rattle.range.proofs.operate.operate.Goals as goal

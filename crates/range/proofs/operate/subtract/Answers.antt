@@ -1,6 +1,5 @@
 -- `range::operate::subtract` meets its contract: the ranges are judged first, and the difference of real ones is the computed answer.
 use native.Mathlib.Omega.{arith}
-use borrow.Author.Rules.{rules}
 use Rattle.call.specs.Operation.{minus}
 use Rattle.range.proofs.Operations.{call_asks, call_cells, call_refused, difference_done}
 use Rattle.range.proofs.operate.subtract.Goals as goal

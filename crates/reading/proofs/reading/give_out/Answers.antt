@@ -1,5 +1,4 @@
 -- `reading::reading::give_out` meets its contract: the word is judged first, and a real one goes out.
-use borrow.Author.Rules.{rules}
 use mathlib.Core.Path.{sym, ◌∙◌}
 use Rattle.call.proofs.Answered.{refused_as_said}
 use Rattle.word.proofs.Verdicts.{range_format, range_real, range_done}

@@ -1,5 +1,4 @@
 -- `reading::reading::range_out` meets its contract: a range without cells is empty, and any other goes out by its two tiles.
-use borrow.Author.Rules.{rules}
 use Rattle.reading.proofs.GoingOut.{start_asks, end_asks, empty_out, ends_out}
 use Rattle.reading.proofs.reading.range_out.Goals as goal
 

@@ -1,5 +1,4 @@
 -- `reading::reading::reading_word` meets its contract: the cells of the two floats are those that the exact bounds of the reading reach.
-use borrow.Author.Rules.{rules}
 use Rattle.reading.proofs.Readings.{good, reading_cells, reading_answer}
 use Rattle.reading.proofs.reading.reading_word.Goals as goal
 

@@ -1,8 +1,6 @@
 -- `reading::reading::take_in` meets its contract: its two tests are those of the verdict, in their order, and what passes both is answered by its cells.
-use borrow.Author.Rules.{rules}
 use mathlib.Core.Path.{◌≡◌, refl, sym, ◌∙◌}
 use mathlib.Core.Bool.{true}
-use borrow.Author.Tests.{not-true, not-false}
 use Rattle.posit.specs.Format.{is_format}
 use Rattle.call.proofs.Answered.{answers_refused, answers_done}
 use Rattle.posit.proofs.Verdicts.{format_of}

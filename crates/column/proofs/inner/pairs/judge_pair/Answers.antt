@@ -1,7 +1,6 @@
 -- `column::inner::pairs::judge_pair` meets its contract: it judges the left word, the right word and the divisor in the order of the tests.
 use mathlib.Core.Path.{refl}
 use mathlib.Core.List.{[]}
-use borrow.Author.Rules.{rules}
 use Rattle.word.specs.Refusal.{word_tests}
 use Rattle.column.specs.Refusal.{divisor_test_at}
 use Rattle.call.proofs.Tests.{Passing, all_pass, one_passes, passing_both}

@@ -1,10 +1,9 @@
 -- `column::inner::pairs::judge_pairs` meets its contract: while no pair is refused, the verdict of all pairs is that of the pairs left.
 use mathlib.Core.Path.{◌≡◌, refl, ap, ◌∙◌}
 use mathlib.Core.List.{◌++◌}
-use Prim.Native.Nat.{◌+◌, ◌-◌, ◌≤◌}
+use Prim.Native.Nat.{◌+◌}
 use native.Mathlib.Omega.{arith}
-use lib.ListN.{length, get_or, drop}
-use borrow.Author.Rules.{rules}
+use lib.ListN.{get_or, drop}
 use Rattle.call.specs.Verdict.{first_hit}
 use Rattle.call.proofs.FirstHit.{none_hits}
 use Rattle.column.specs.Column.{pair_tests, pairs_tests}

@@ -1,16 +1,9 @@
 -- `column::inner::pairs::judge_pairs` meets its contract: while no pair is refused, the verdict of all pairs is that of the pairs left.
-use mathlib.Core.Path.{◌≡◌, refl, ap, ◌∙◌}
-use mathlib.Core.List.{◌++◌}
-use Prim.Native.Nat.{◌+◌, ◌-◌, ◌≤◌}
-use native.Mathlib.Omega.{arith}
-use lib.ListN.{length, get_or, drop}
-use borrow.Author.Rules.{rules}
+use mathlib.Core.Path.{◌≡◌}
+use Prim.Native.Nat.{◌-◌, ◌≤◌}
+use lib.ListN.{length, drop}
 use Rattle.call.specs.Verdict.{first_hit}
-use Rattle.call.proofs.FirstHit.{none_hits}
-use Rattle.column.specs.Column.{pair_tests, pairs_tests}
-use Rattle.call.proofs.Tests.{passing_of, passing_skips}
-use Rattle.call.proofs.Said.{says, says_by, says_first, accepts}
-use Rattle.column.proofs.Pairs.{pair_refusing, pairs_next, pairs_end}
+use Rattle.column.specs.Column.{pairs_tests}
 use Rattle.column.proofs.inner.pairs.judge_pairs.Given as goal
 
 abbrev pub invariant-loop-i : goal.invariant-loop-i

@@ -1,13 +1,11 @@
 -- `column::inner::pairs::write_answers` meets its contract: after i turns the first i answers stand at the front, and the rest is as it was.
-use mathlib.Core.Path.{◌≡◌, refl, sym, ◌∙◌}
-use Prim.Native.Nat.{◌-◌, ◌≤◌}
+use mathlib.Core.Path.{refl, sym, ◌∙◌}
 use native.Mathlib.Omega.{arith}
-use lib.ListN.{length, get_or}
-use borrow.Author.Rules.{rules}
+use lib.ListN.{get_or}
 use Rattle.column.specs.Accepted.{PairFits}
 use Rattle.column.specs.Column.{answers_of}
 use Rattle.call.proofs.Tests.{passing_of}
-use Rattle.call.proofs.Copies.{Copied, copy_none, copy_one, copy_length, copy_whole}
+use Rattle.call.proofs.Copies.{copy_none, copy_one, copy_length, copy_whole}
 use Rattle.column.proofs.Pairs.{pairs_refusing, pair_passes, length_answers, answer_at}
 use Rattle.column.proofs.inner.pairs.write_answers.Goals as goal
 use Rattle.column.proofs.inner.pairs.write_answers.Goals.{In-loop-i, Start}

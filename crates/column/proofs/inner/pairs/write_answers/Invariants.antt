@@ -1,14 +1,9 @@
 -- `column::inner::pairs::write_answers` meets its contract: after i turns the first i answers stand at the front, and the rest is as it was.
-use mathlib.Core.Path.{◌≡◌, refl, sym, ◌∙◌}
+use mathlib.Core.Path.{◌≡◌}
 use Prim.Native.Nat.{◌-◌, ◌≤◌}
-use native.Mathlib.Omega.{arith}
-use lib.ListN.{length, get_or}
-use borrow.Author.Rules.{rules}
-use Rattle.column.specs.Accepted.{PairFits}
+use lib.ListN.{length}
 use Rattle.column.specs.Column.{answers_of}
-use Rattle.call.proofs.Tests.{passing_of}
-use Rattle.call.proofs.Copies.{Copied, copy_none, copy_one, copy_length, copy_whole}
-use Rattle.column.proofs.Pairs.{pairs_refusing, pair_passes, length_answers, answer_at}
+use Rattle.call.proofs.Copies.{Copied}
 use Rattle.column.proofs.inner.pairs.write_answers.Given as goal
 
 abbrev pub invariant-loop-i : goal.invariant-loop-i

@@ -1,13 +1,10 @@
 -- `column::inner::plains::all_plain` meets its contract: all pairs are such where the faults joined so far are below 2^63 and the pairs left are such.
-use mathlib.Core.Path.{◌≡◌, refl, sym, ◌∙◌}
+use mathlib.Core.Path.{◌≡◌}
 use mathlib.Core.Bool.{◌&&◌}
 use Prim.Native.Nat.{◌-◌, ◌^◌, ◌≤◌}
-use native.Mathlib.Omega.{arith}
 use lib.Dec.{ltb}
 use lib.ListN.{length, drop}
-use borrow.Author.Rules.{rules}
 use Rattle.column.specs.Plains.{all_plain}
-use Rattle.column.proofs.Plains.{faults_next, faults_end}
 use Rattle.column.proofs.inner.plains.all_plain.Given as goal
 
 abbrev pub invariant-loop-i : goal.invariant-loop-i

@@ -1,7 +1,6 @@
 -- `column::inner::plains::plain_answer` meets its contract: the number 2 is the product, 0 the sum, and of those up to 3 without 1 only 3 is left.
 use mathlib.Core.Path.{◌≡◌}
 use native.Mathlib.Omega.{arith}
-use borrow.Author.Rules.{rules}
 use Rattle.column.proofs.inner.plains.plain_answer.Goals as goal
 use Rattle.column.proofs.inner.plains.plain_answer.Goals.{Else-op-eq-ADD}
 

@@ -1,5 +1,4 @@
 -- `column::inner::plains::takes_plain_way` meets its contract: its two tests are those of the definition.
-use borrow.Author.Rules.{rules}
 use borrow.Author.Tests.{eq-eqb, ne_eqb}
 use Rattle.column.specs.Plains.{subtract}
 use Rattle.column.proofs.inner.plains.takes_plain_way.Goals as goal

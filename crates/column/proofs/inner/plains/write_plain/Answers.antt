@@ -1,14 +1,12 @@
 -- `column::inner::plains::write_plain` meets its contract: after i turns the first i answers stand at the front, and the rest is as it was.
 use mathlib.Core.Path.{◌≡◌, refl, sym, ◌∙◌}
 use mathlib.Core.Bool.{true}
-use Prim.Native.Nat.{◌-◌, ◌≤◌}
 use native.Mathlib.Omega.{arith}
-use lib.ListN.{length, get_or}
-use borrow.Author.Rules.{rules}
+use lib.ListN.{get_or}
 use Rattle.tiles.specs.Plain.{is_plain}
 use Rattle.tiles.specs.Spread.{is_spread}
 use Rattle.column.specs.Column.{answers_of}
-use Rattle.call.proofs.Copies.{Copied, copy_none, copy_one, copy_length, copy_whole}
+use Rattle.call.proofs.Copies.{copy_none, copy_one, copy_length, copy_whole}
 use Rattle.column.proofs.Pairs.{length_answers, answer_at}
 use Rattle.column.proofs.Plains.{plain_at, way_plain, way_other}
 use Rattle.column.proofs.inner.plains.write_plain.Goals as goal

@@ -1,16 +1,9 @@
 -- `column::inner::plains::write_plain` meets its contract: after i turns the first i answers stand at the front, and the rest is as it was.
-use mathlib.Core.Path.{◌≡◌, refl, sym, ◌∙◌}
-use mathlib.Core.Bool.{true}
+use mathlib.Core.Path.{◌≡◌}
 use Prim.Native.Nat.{◌-◌, ◌≤◌}
-use native.Mathlib.Omega.{arith}
-use lib.ListN.{length, get_or}
-use borrow.Author.Rules.{rules}
-use Rattle.tiles.specs.Plain.{is_plain}
-use Rattle.tiles.specs.Spread.{is_spread}
+use lib.ListN.{length}
 use Rattle.column.specs.Column.{answers_of}
-use Rattle.call.proofs.Copies.{Copied, copy_none, copy_one, copy_length, copy_whole}
-use Rattle.column.proofs.Pairs.{length_answers, answer_at}
-use Rattle.column.proofs.Plains.{plain_at, way_plain, way_other}
+use Rattle.call.proofs.Copies.{Copied}
 use Rattle.column.proofs.inner.plains.write_plain.Given as goal
 
 abbrev pub invariant-loop-i : goal.invariant-loop-i

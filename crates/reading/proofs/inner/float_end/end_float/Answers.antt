@@ -1,5 +1,4 @@
 -- `reading::inner::float_end::end_float` meets its contract: zero is +0.0, NaR stands for unbounded, and any other posit is the float of its decoded form.
-use borrow.Author.Rules.{rules}
 use native.Mathlib.Omega.{arith}
 use Rattle.posit.proofs.Mirror.{power_wider}
 use Rattle.posit.proofs.SmallScale.{kept_small}

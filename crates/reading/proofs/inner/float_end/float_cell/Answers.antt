@@ -1,5 +1,4 @@
 -- `reading::inner::float_end::float_cell` meets its contract: an infinity has the given cell, 0 the middle one, and what is left is known exactly by its digits.
-use borrow.Author.Rules.{rules}
 use mathlib.Core.Path.{refl, sym, subst}
 use native.Mathlib.Omega.{arith}
 use lib.Dec.{T}

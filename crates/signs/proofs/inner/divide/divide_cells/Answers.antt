@@ -1,7 +1,6 @@
 -- `signs::inner::divide::divide_cells` meets its contract: an empty operand has no quotients, and those of others are found as cells.
 use mathlib.Core.Path.{ap, ◌∙◌}
 use native.Mathlib.Omega.{arith}
-use borrow.Author.Rules.{rules}
 use Rattle.posit.proofs.Mirror.{power_wider}
 use Rattle.word.specs.Spans.{word_at}
 use Rattle.word.proofs.Tiles.{half_large}

@@ -1,5 +1,4 @@
 -- `signs::inner::divide::divide_ranges` meets its contract: the cells of the quotients are those that the exact quotients reach.
-use borrow.Author.Rules.{rules}
 use Rattle.signs.proofs.ByStages.{quotient_found}
 use Rattle.word.proofs.RealWords.{real_cells}
 use Rattle.signs.proofs.inner.divide.divide_ranges.Goals as goal

@@ -1,5 +1,4 @@
 -- `signs::inner::divide::quotients` meets its contract: it puts the results of all signs and 0 together.
-use borrow.Author.Rules.{rules}
 use Rattle.signs.proofs.ByStages.{quotient_by_stages}
 use Rattle.signs.proofs.inner.divide.quotients.Goals as goal
 

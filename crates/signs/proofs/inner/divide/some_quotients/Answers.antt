@@ -1,5 +1,4 @@
 -- `signs::inner::divide::some_quotients` meets its contract: each way of finding the quotients finds all.
-use borrow.Author.Rules.{rules}
 use Rattle.signs.proofs.OneSigned.{left_one_sign, right_one_sign}
 use Rattle.signs.proofs.Mixed.{mixed_left, one_sign_right}
 use Rattle.signs.proofs.inner.divide.some_quotients.Goals as goal

@@ -1,5 +1,4 @@
 -- `signs::inner::mixed::around` meets its contract: its test is that of the definition, and no cell lies above the top one.
-use borrow.Author.Rules.{rules}
 use Rattle.signs.proofs.Mixed.{around_by_above, around_by_below}
 use Rattle.signs.proofs.inner.mixed.around.Goals as goal
 

@@ -1,7 +1,6 @@
 -- `signs::inner::mixed::is_mixed` meets its contract: its tests are those of the definition.
 use native.Mathlib.Omega.{arith}
 use lib.Pow.{pow_pos}
-use borrow.Author.Rules.{rules}
 use Rattle.signs.proofs.Mixed.{mixed_if_below, nothing_above}
 use Rattle.signs.proofs.inner.mixed.is_mixed.Goals as goal
 

@@ -2,7 +2,6 @@
 use mathlib.Core.Path.{refl, ap, ap₂, ◌∙◌}
 use mathlib.Core.Bool.{false}
 use Prim.Native.Nat.{◌-◌}
-use borrow.Author.Rules.{rules}
 use Rattle.signs.specs.Mixed.{around}
 use Rattle.signs.proofs.Mixed.{lower_above, upper_above, far_above, below_there, above_there, last_product, mixed_products}
 use Rattle.signs.proofs.inner.mixed.mixed_products.Goals as goal

@@ -2,7 +2,6 @@
 use mathlib.Core.Path.{refl, ap, ap₂, ◌∙◌}
 use mathlib.Core.Bool.{true}
 use Prim.Native.Nat.{◌-◌}
-use borrow.Author.Rules.{rules}
 use Rattle.signs.specs.Mixed.{around}
 use Rattle.signs.proofs.Mixed.{lower_above, upper_above, near_above, below_there, above_there, last_quotient, mixed_quotients}
 use Rattle.signs.proofs.inner.mixed.mixed_quotients.Goals as goal

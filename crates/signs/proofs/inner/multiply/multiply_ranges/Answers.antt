@@ -1,5 +1,4 @@
 -- `signs::inner::multiply::multiply_ranges` meets its contract: the cells of the products are those that the exact products reach.
-use borrow.Author.Rules.{rules}
 use Rattle.signs.proofs.ByStages.{product_found}
 use Rattle.word.proofs.RealWords.{real_cells}
 use Rattle.signs.proofs.inner.multiply.multiply_ranges.Goals as goal

@@ -1,5 +1,4 @@
 -- `signs::inner::multiply::products` meets its contract: it puts the results of all signs and 0 together.
-use borrow.Author.Rules.{rules}
 use Rattle.signs.proofs.ByStages.{product_by_stages}
 use Rattle.signs.proofs.inner.multiply.products.Goals as goal
 

@@ -1,6 +1,5 @@
 -- `signs::inner::multiply::some_products` meets its contract: each way of finding the products finds all.
 use mathlib.Core.Path.{◌∙◌}
-use borrow.Author.Rules.{rules}
 use Rattle.signs.proofs.OneSigned.{left_one_sign, right_one_sign}
 use Rattle.signs.proofs.Mixed.{mixed_left, one_sign_right, products_either_way}
 use Rattle.signs.proofs.inner.multiply.some_products.Goals as goal

@@ -1,5 +1,4 @@
 -- `signs::inner::one_sign::has_one_sign` meets its contract: its tests are those of the definition.
-use borrow.Author.Rules.{rules}
 use Rattle.signs.proofs.ReachedCells.{sign_above, sign_below}
 use Rattle.signs.proofs.inner.one_sign.has_one_sign.Goals as goal
 

@@ -1,5 +1,4 @@
 -- `signs::inner::one_sign::have_one_sign` meets its contract: its tests are those of the definition.
-use borrow.Author.Rules.{rules}
 use Rattle.signs.specs.OneSign.{has_one_sign}
 use Rattle.signs.proofs.OneSigned.{both_hold, first_fails}
 use Rattle.signs.proofs.inner.one_sign.have_one_sign.Goals as goal

@@ -1,5 +1,4 @@
 -- `signs::inner::one_sign::is_above` meets its contract: its test is that of the definition.
-use borrow.Author.Rules.{rules}
 use Rattle.signs.proofs.inner.one_sign.is_above.Goals as goal
 
 pub returns : goal.returns

@@ -1,6 +1,5 @@
 -- `signs::inner::one_sign::magnitudes` meets its contract: members that are not above 0 are below it.
 use mathlib.Core.Path.{sym, ◌∙◌}
-use borrow.Author.Rules.{rules}
 use Rattle.signs.proofs.OneSigned.{above_magnitudes, below_magnitudes}
 use Rattle.signs.proofs.inner.one_sign.magnitudes.Goals as goal
 

@@ -1,7 +1,6 @@
 -- `signs::inner::one_sign::one_sign_products` meets its contract: the products of the magnitudes, with the sign of both, are all products.
 use mathlib.Core.Path.{ap, ap₂, ◌∙◌}
 use mathlib.Core.Bool.{false}
-use borrow.Author.Rules.{rules}
 use Rattle.signs.specs.Signs.{positive_some}
 use Rattle.signs.specs.OneSign.{with_signs}
 use Rattle.signs.proofs.ReachedCells.{some_cells}

@@ -1,7 +1,6 @@
 -- `signs::inner::one_sign::one_sign_quotients` meets its contract: the quotients of the magnitudes, with the sign of both, are all quotients.
 use mathlib.Core.Path.{ap, ap₂, ◌∙◌}
 use mathlib.Core.Bool.{true}
-use borrow.Author.Rules.{rules}
 use Rattle.signs.specs.Signs.{positive_some}
 use Rattle.signs.specs.OneSign.{with_signs}
 use Rattle.signs.proofs.ReachedCells.{some_cells}

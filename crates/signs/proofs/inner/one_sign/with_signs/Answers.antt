@@ -1,5 +1,4 @@
 -- `signs::inner::one_sign::with_signs` meets its contract: its test is that of the definition.
-use borrow.Author.Rules.{rules}
 use Rattle.signs.proofs.OneSigned.{signs_agree, signs_differ}
 use Rattle.signs.proofs.inner.one_sign.with_signs.Goals as goal
 

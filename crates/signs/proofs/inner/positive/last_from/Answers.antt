@@ -1,6 +1,5 @@
 -- `signs::inner::positive::last_from` meets its contract: the mark is 1 where both cells are odd.
 use native.Mathlib.Omega.{arith}
-use borrow.Author.Rules.{rules}
 use Rattle.signs.proofs.ReachedCells.{marks_small}
 use Rattle.signs.proofs.inner.positive.last_from.Goals as goal
 

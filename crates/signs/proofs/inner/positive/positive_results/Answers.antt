@@ -1,6 +1,5 @@
 -- `signs::inner::positive::positive_results` meets its contract: its tests are those of the definition.
 use native.Mathlib.Omega.{arith}
-use borrow.Author.Rules.{rules}
 use Rattle.signs.proofs.ReachedCells.{no_left_part, no_right_part, both_parts}
 use Rattle.signs.proofs.inner.positive.positive_results.Goals as goal
 

@@ -1,5 +1,4 @@
 -- `signs::inner::positive::positive_some` meets its contract: the test chooses the quotients or the products.
-use borrow.Author.Rules.{rules}
 use Rattle.signs.proofs.ReachedCells.{quotient_part, product_part}
 use Rattle.signs.proofs.inner.positive.positive_some.Goals as goal
 

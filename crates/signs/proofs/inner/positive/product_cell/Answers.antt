@@ -1,6 +1,5 @@
 -- `signs::inner::positive::product_cell` meets its contract: the codes say what the posits are, so their exact product has its step.
 use Rattle.cell.proofs.ResultCell.{known_fits, known_cell, same_product}
-use borrow.Author.Rules.{rules}
 use Rattle.signs.proofs.inner.positive.product_cell.Goals as goal
 
 pub above_zero-requires : goal.above_zero-requires

@@ -1,7 +1,6 @@
 -- `signs::inner::positive::product_last` meets its contract: at the topmost gap where an end is no limit, else the cell of the result, or its gap unless both are closed.
 use mathlib.Core.Path.{refl, ap₂, ◌∙◌}
 use mathlib.Core.Bool.{false}
-use borrow.Author.Rules.{rules}
 use Rattle.signs.specs.Signs.{end_edge}
 use Rattle.cell.specs.Cells.{result_cell}
 use Rattle.signs.proofs.ReachedCells.{end_limit, end_limited, end_unlimited, last_limited, last_no_left, last_no_right}

@@ -1,5 +1,4 @@
 -- `signs::inner::positive::products_above` meets its contract: it takes the ends that belong together.
-use borrow.Author.Rules.{rules}
 use Rattle.signs.proofs.ReachedCells.{last_above_says}
 use Rattle.signs.proofs.inner.positive.products_above.Goals as goal
 

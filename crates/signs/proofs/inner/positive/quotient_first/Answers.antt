@@ -1,7 +1,6 @@
 -- `signs::inner::positive::quotient_first` meets its contract: in the gap above 0 where an end is no limit, else the cell of the result, or its gap unless both are closed.
 use mathlib.Core.Path.{refl, ap₂, ◌∙◌}
 use mathlib.Core.Bool.{true}
-use borrow.Author.Rules.{rules}
 use Rattle.signs.specs.Signs.{start_edge, end_edge}
 use Rattle.cell.specs.Cells.{result_cell}
 use Rattle.signs.proofs.ReachedCells.{end_limit, end_limited, end_unlimited, first_limited, first_no_left, first_no_right, start_limit, start_limited, start_unlimited}

@@ -1,6 +1,5 @@
 -- `signs::inner::positive::start_above` meets its contract: the number of a posit above 0 is half its cell's distance from the cells up to 0.
 use native.Mathlib.Omega.{arith}
-use borrow.Author.Rules.{rules}
 use Rattle.posit.proofs.Mirror.{power_wider}
 use Rattle.word.proofs.Tiles.{half_small}
 use Rattle.signs.proofs.ReachedCells.{start_by_count}

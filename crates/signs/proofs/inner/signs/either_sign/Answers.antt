@@ -1,5 +1,4 @@
 -- `signs::inner::signs::either_sign` meets its contract: it puts the results of both signs together.
-use borrow.Author.Rules.{rules}
 use Rattle.signs.proofs.ReachedCells.{positive_cells}
 use Rattle.signs.proofs.inner.signs.either_sign.Goals as goal
 

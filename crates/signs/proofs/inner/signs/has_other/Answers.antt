@@ -1,5 +1,4 @@
 -- `signs::inner::signs::has_other` meets its contract: its tests are those of the definition.
-use borrow.Author.Rules.{rules}
 use Rattle.signs.proofs.ReachedCells.{other_above, other_below}
 use Rattle.signs.proofs.inner.signs.has_other.Goals as goal
 

@@ -1,7 +1,6 @@
 -- `signs::inner::signs::has_zero` meets its contract: its tests are those of the definition.
 use native.Mathlib.Omega.{arith}
 use lib.Pow.{pow_pos}
-use borrow.Author.Rules.{rules}
 use Rattle.signs.proofs.ReachedCells.{zero_from_low, zero_before_low}
 use Rattle.signs.proofs.inner.signs.has_zero.Goals as goal
 

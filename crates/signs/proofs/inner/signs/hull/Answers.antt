@@ -1,5 +1,4 @@
 -- `signs::inner::signs::hull` meets its contract: it is the least first and the greatest last cell.
-use borrow.Author.Rules.{rules}
 use Rattle.signs.proofs.inner.signs.hull.Goals as goal
 
 pub returns : goal.returns

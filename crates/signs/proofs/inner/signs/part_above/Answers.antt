@@ -1,5 +1,4 @@
 -- `signs::inner::signs::part_above` meets its contract: its test is that of the definition.
-use borrow.Author.Rules.{rules}
 use Rattle.signs.proofs.ReachedCells.{no_part_above, some_part_above}
 use Rattle.signs.proofs.inner.signs.part_above.Goals as goal
 

@@ -1,5 +1,4 @@
 -- `signs::inner::signs::signed_results` meets its contract: it splits both operands at 0 and puts the results of all signs together.
-use borrow.Author.Rules.{rules}
 use Rattle.signs.proofs.ByStages.{signed_by_stages}
 use Rattle.signs.proofs.ReachedCells.{part_there, mirrored_part_there, either_cells}
 use Rattle.signs.proofs.inner.signs.signed_results.Goals as goal

@@ -1,5 +1,4 @@
 -- `signs::inner::signs::turned_cells` meets its contract: its test is that of the definition, and no cell lies above the top one.
-use borrow.Author.Rules.{rules}
 use Rattle.signs.proofs.ReachedCells.{none_turned, some_turned}
 use Rattle.signs.proofs.inner.signs.turned_cells.Goals as goal
 

@@ -1,7 +1,6 @@
 -- `signs::inner::signs::zero_if` meets its contract: its tests are those of the definition.
 use native.Mathlib.Omega.{arith}
 use lib.Pow.{pow_pos}
-use borrow.Author.Rules.{rules}
 use Rattle.signs.proofs.ReachedCells.{zero_there, no_left_zero, no_right_zero}
 use Rattle.signs.proofs.inner.signs.zero_if.Goals as goal
 

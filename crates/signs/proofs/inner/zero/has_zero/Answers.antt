@@ -1,6 +1,5 @@
 -- `signs::inner::zero::has_zero` meets its contract: 0 is a member where its cell is one of the range's cells (`HasZero`).
 use mathlib.Core.Path.{◌∙◌}
-use borrow.Author.Rules.{rules}
 use Rattle.signs.proofs.HasZero.{zero_member}
 use Rattle.signs.proofs.inner.zero.has_zero.Goals as goal
 

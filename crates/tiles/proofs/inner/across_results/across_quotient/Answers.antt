@@ -1,6 +1,6 @@
 -- `tiles::inner::across_results::across_quotient` meets its contract: the quotients reach from the negative of that of the sizes to that of the end, and over a start
 -- next to 0 they have no limit (`AcrossResults`).
-use Rattle.std.proofs.Common.{◌+◌, ◌^◌, ◌<◌, ◌≤◌, true, refl, arith, rules}
+use Rattle.std.proofs.Common.{◌+◌, ◌^◌, ◌<◌, ◌≤◌, true, refl, arith}
 use Rattle.posit.proofs.Mirror.{power_wider}
 use Rattle.word.specs.Word.{tiles, end_tile}
 use Rattle.word.specs.Spans.{top_cell}

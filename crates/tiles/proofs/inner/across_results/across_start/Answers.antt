@@ -1,6 +1,6 @@
 -- `tiles::inner::across_results::across_start` meets its contract: beyond an open 0 the sums start at the posit below 0, open, else at the exact sum of the two, which is
 -- nothing where one takes the other away (`SumTiles`).
-use Rattle.std.proofs.Common.{◌≡◌, ℕ, ◌+◌, ◌-◌, ◌*◌, ◌/◌, ◌^◌, ◌<◌, Bool, true, false, ltb, sym, refl, ap, ◌∙◌, arith, rules}
+use Rattle.std.proofs.Common.{◌≡◌, ℕ, ◌+◌, ◌-◌, ◌*◌, ◌/◌, ◌^◌, ◌<◌, Bool, true, false, ltb, sym, refl, ap, ◌∙◌, arith}
 use Rattle.exact.specs.Fraction.{Fraction, ◌+ᶠ◌}
 use Rattle.exact.proofs.Sum.{+ᶠ_comm}
 use Rattle.posit.specs.Format.{Finite, nar}

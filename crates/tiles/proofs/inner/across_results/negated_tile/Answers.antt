@@ -1,5 +1,5 @@
 -- `tiles::inner::across_results::negated_tile` meets its contract: where the posit is not 0 the turn at NaR's side is a subtraction (`AcrossCells`).
-use Rattle.std.proofs.Common.{arith, rules}
+use Rattle.std.proofs.Common.{arith}
 use Rattle.posit.proofs.Mirror.{power_wider}
 use Rattle.word.proofs.Tiles.{half_small}
 use Rattle.tiles.proofs.AcrossCells.{tile_negated}

@@ -1,5 +1,5 @@
 -- `tiles::inner::across_results::signed_tile` meets its contract: there are twice 2^n tiles.
-use Rattle.std.proofs.Common.{arith, rules}
+use Rattle.std.proofs.Common.{arith}
 use Rattle.posit.proofs.Mirror.{power_wider}
 use Rattle.word.proofs.Tiles.{half_small}
 use Rattle.tiles.proofs.inner.across_results.signed_tile.Goals as goal

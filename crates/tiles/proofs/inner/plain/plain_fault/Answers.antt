@@ -1,5 +1,5 @@
 -- `tiles::inner::plain::plain_fault` meets its contract: each number joined passes 2^63 where its test fails (`Faults`).
-use Rattle.std.proofs.Common.{pow_pos, rules}
+use Rattle.std.proofs.Common.{pow_pos}
 use Rattle.tiles.proofs.Faults.{mark_fits, plain_judged}
 use Rattle.tiles.proofs.inner.plain.plain_fault.Goals as goal
 

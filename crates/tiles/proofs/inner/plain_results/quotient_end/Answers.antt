@@ -1,5 +1,5 @@
 -- `tiles::inner::plain_results::quotient_end` meets its contract: no limit where the divisor starts at an open 0, else the end over the start (`PlainResults`).
-use Rattle.std.proofs.Common.{true, arith, rules}
+use Rattle.std.proofs.Common.{true, arith}
 use Rattle.word.proofs.Tiles.{half_small}
 use Rattle.tiles.proofs.PlainCells.{start_posit_fits, end_posit_fits}
 use Rattle.tiles.proofs.PlainResults.{start_edge_says, end_edge_says, no_limit, end_between, result_cell_above}

@@ -1,5 +1,5 @@
 -- `tiles::inner::plain_results::start_tile_from` meets its contract: the tile of a cell above that of 0 is its distance from the cells up to 0 (`PlainResults`).
-use Rattle.std.proofs.Common.{arith, rules}
+use Rattle.std.proofs.Common.{arith}
 use Rattle.posit.proofs.Mirror.{power_wider}
 use Rattle.word.proofs.Tiles.{half_small}
 use Rattle.tiles.proofs.PlainResults.{start_tile_found}

@@ -1,5 +1,5 @@
 -- `tiles::inner::spread::spread_fault` meets its contract: each number joined passes 2^63 where its test fails (`Faults`).
-use Rattle.std.proofs.Common.{arith, pow_pos, rules}
+use Rattle.std.proofs.Common.{arith, pow_pos}
 use Rattle.word.proofs.Tiles.{half_large}
 use Rattle.tiles.proofs.Faults.{mark_fits, spread_judged}
 use Rattle.tiles.proofs.inner.spread.spread_fault.Goals as goal

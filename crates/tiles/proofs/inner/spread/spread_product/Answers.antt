@@ -1,5 +1,4 @@
 -- `tiles::inner::spread::spread_product` meets its contract: the left range lies across 0 where its start lies below it, and else above (`Spreading`).
-use Rattle.std.proofs.Common.{rules}
 use Rattle.tiles.proofs.Spreading.{across_here, plain_here}
 use Rattle.tiles.proofs.inner.spread.spread_product.Goals as goal
 

@@ -1,6 +1,6 @@
 -- `tiles::inner::spread::spread_sum` meets its contract: the left range lies across 0 where its start lies below it, and else above (`Spreading`), and the sums reach
 -- from that of the starts to that of the ends.
-use Rattle.std.proofs.Common.{◌≡◌, true, false, rules}
+use Rattle.std.proofs.Common.{◌≡◌, true, false}
 use Rattle.tiles.proofs.Spreading.{across_here, plain_here, real_of_spread, spread_end}
 use Rattle.tiles.proofs.PlainCells.{plain_tiles, plain_start, plain_end, real_of_plain}
 use Rattle.tiles.proofs.PlainResults as plain

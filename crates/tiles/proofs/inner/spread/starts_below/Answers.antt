@@ -1,5 +1,5 @@
 -- `tiles::inner::spread::starts_below` meets its contract: the tile is the word's first bits, and its first bit is asked for.
-use Rattle.std.proofs.Common.{pow_pos, rules}
+use Rattle.std.proofs.Common.{pow_pos}
 use Rattle.tiles.proofs.inner.spread.starts_below.Goals as goal
 
 pub nonzero_div-result : goal.nonzero_div-result
