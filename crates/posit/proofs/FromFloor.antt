@@ -1,5 +1,5 @@
 -- The floor among the patterns one bit longer gives the rounding: the tests of the rule are settled by its half, its last bit and whether it is
--- exact (`Located`), and these choose the same answer in `roundedOf`.
+-- exact (`Located`), and these choose the same answer in `rounded_of`.
 use Rattle.std.proofs.Common.{◌≡◌, ℕ, ◌+◌, ◌/◌, ◌%◌, ◌^◌, ◌<◌, ◌≤◌, Bool, true, false, ◌⊎◌, pos, sym, refl, ◌∙◌, subst, inl, inr, eq-zero-or-pos, arith}
 use native.Mathlib.Decide.{ℕ_discrete}
 use Rattle.exact.specs.Fraction.{Fraction, ◌<ᶠ◌, ◌≈◌, whole}

@@ -1,4 +1,4 @@
--- `cell::inner::cell::start_posit` meets its contract: it computes `patternAt` itself.
+-- `cell::inner::cell::start_posit` meets its contract: it computes `pattern_at` itself.
 use Prim.Native.Nat.{◌-◌, ◌/◌}
 use native.Mathlib.Omega.{arith}
 use lib.Pow.{pow_pos}
