@@ -35,7 +35,7 @@ units_same : (c d : ℕ) → units_of c ≡ units_of d → c ≡ d
 units_same c d same = le_antisymm (units_back c d (le_of_eq same)) (units_back d c (le_of_eq (sym same)))
 
 -- ---- the bits of a double that is the number of a code
-module _ (r : Float) (c : ℕ) (at_least_lem : 2 ^ 52 ≤ c) (less : c < 2047 * 2 ^ 52) (value : HasValue r false (units_of c) (2 ^ 1075)) where
+module _ (r : Float) (c : ℕ) (at_least : 2 ^ 52 ≤ c) (less : c < 2047 * 2 ^ 52) (value : HasValue r false (units_of c) (2 ^ 1075)) where
   abbrev half : ℕ
   half = digits_in 52 c * 2 ^ (scale_in 52 c - 1)
 
@@ -43,7 +43,7 @@ module _ (r : Float) (c : ℕ) (at_least_lem : 2 ^ 52 ≤ c) (less : c < 2047 * 
   halved = powers_meet (digits_in 52 c) (scale_in 52 c - 1) 1 (scale_in 52 c) 0 (omega arith) ∙ omega arith
 
   many : 2 ^ 52 ≤ half
-  many = omega (arith, halved, units_most (2 ^ 52) c at_least_lem)
+  many = omega (arith, halved, units_most (2 ^ 52) c at_least)
 
   code_bits : to_bits binary64 r ≡ c
   code_bits =
@@ -66,7 +66,7 @@ below_value = plain_value below (omega arith) (omega arith)
 pub below_number : T (not (nan_bits binary64 below))
 below_number = plain_number below (omega arith) (omega arith)
 
-module _ (y : ℕ) (at_least_lem : 27 * 2 ^ 52 ≤ y) (less : y < 2047 * 2 ^ 52) where
+module _ (y : ℕ) (at_least : 27 * 2 ^ 52 ≤ y) (less : y < 2047 * 2 ^ 52) where
   lowered_units : units_of (lowered y) * 2 ^ 1075 ≡ units_of y * 2 ^ 1049
   lowered_units =
       let digits : digits_in 52 (lowered y) ≡ digits_in 52 y = omega arith in

@@ -19,7 +19,7 @@ pub record Brackets (n es g s a L : ℕ) (exact : Bool) : Type 0 where
   pub miss : exact ≡ false → multiple n es L * 2 ^ a < g * 2 ^ (s + lowest n es)
   pub next : suc L < 2 ^ n → suc g * 2 ^ (s + lowest n es) ≤ multiple n es (suc L) * 2 ^ a
 
-module _ (n es g s a h : ℕ) (some : 0 < n) (at_least_lem : 2 ^ h ≤ g) (less : g < 2 * 2 ^ h) where
+module _ (n es g s a h : ℕ) (some : 0 < n) (at_least : 2 ^ h ≤ g) (less : g < 2 * 2 ^ h) where
   -- ---- smaller than the smallest pattern
   pub below_all : s + h + lowest n es < a → Brackets n es g s a 0 false
   below_all l =
@@ -48,13 +48,13 @@ module _ (n es g s a h : ℕ) (some : 0 < n) (at_least_lem : 2 ^ h ≤ g) (less 
     cut L u here there =
         record {
           fits = u;
-          hit = λ z. hits es h w q e g at_least_lem less low room s a (lowest n es) scale (multiple n es L) (multiple n es (suc L)) here there (eqb-true (behind h e g % unit_of es h w) 0 z);
-          miss = λ z. misses es h w q e g at_least_lem less low room s a (lowest n es) scale (multiple n es L) (multiple n es (suc L)) here there (eqb-false (behind h e g % unit_of es h w) 0 z);
-          next = λ v. next_above es h w q e g at_least_lem less low room s a (lowest n es) scale (multiple n es L) (multiple n es (suc L)) here there;
+          hit = λ z. hits es h w q e g at_least less low room s a (lowest n es) scale (multiple n es L) (multiple n es (suc L)) here there (eqb-true (behind h e g % unit_of es h w) 0 z);
+          miss = λ z. misses es h w q e g at_least less low room s a (lowest n es) scale (multiple n es L) (multiple n es (suc L)) here there (eqb-false (behind h e g % unit_of es h w) 0 z);
+          next = λ v. next_above es h w q e g at_least less low room s a (lowest n es) scale (multiple n es L) (multiple n es (suc L)) here there;
         }
 
     t_fits : t < 2 ^ w
-    t_fits = tail_fits es h w q e g at_least_lem less low room
+    t_fits = tail_fits es h w q e g at_least less low room
 
     pub behind_zeros : w ≡ q → q < n - 1 → Brackets n es g s a (2 ^ w + t) (eqb (behind h e g % unit_of es h w) 0)
     behind_zeros i l =
@@ -86,7 +86,7 @@ module _ (n es g s a h : ℕ) (some : 0 < n) (at_least_lem : 2 ^ h ≤ g) (less 
     pub beyond_last : 2 * lowest n es < S → Brackets n es g s a (2 ^ n - 1) false
     beyond_last l =
         last (λ e. absurd (subst T (sym e) tt))
-        (λ e. omega (arith, mul-lt-mul_of_pos_right (pow-lt l) (pow_pos a), in_all, mul-le-mul_right (2 ^ (s + lowest n es)) at_least_lem))
+        (λ e. omega (arith, mul-lt-mul_of_pos_right (pow-lt l) (pow_pos a), in_all, mul-le-mul_right (2 ^ (s + lowest n es)) at_least))
 
     pub at_last : S ≡ 2 * lowest n es → Brackets n es g s a (2 ^ n - 1) (eqb g (2 ^ h))
     at_last i =

@@ -32,8 +32,8 @@ module _ {g h : ℕ} (s t : ℤ) (a : g % 2 ≡ 1) (b : h % 2 ≡ 1) where
       let k = dn s + dn t in
       let left = scaled_over (pos g) s k (up s + dn t) (simp spread (simp parts (omega arith))) in
       let right = scaled_over (pos h) t k (up t + dn s) (simp spread (simp parts (omega arith))) in
-      let (same_odd, same_Scale) = odd_once (up s + dn t) (up t + dn s) g h a b (pos_inj ((over_power_≈ k).0 ((≈_respects left right).0 e))) in
-      (same_odd, same s t same_Scale)
+      let (same_odd, same_scale) = odd_once (up s + dn t) (up t + dn s) g h a b (pos_inj ((over_power_≈ k).0 ((≈_respects left right).0 e))) in
+      (same_odd, same s t same_scale)
 
 -- ---- the sign
 negative_less : (g : ℕ) → g % 2 ≡ 1 → neg_ℤ (pos g) <ℤ pos 0
@@ -50,10 +50,10 @@ module _ (s t : ℤ) (g h : ℕ) (a : g % 2 ≡ 1) (b : h % 2 ≡ 1) where
   unsigned e = rw (neg_ℤ-neg_ℤ (pos g), neg_ℤ-neg_ℤ (pos h)) at ((≈_respects (scaled_negᶠ s (neg_ℤ (pos g))) (scaled_negᶠ t (neg_ℤ (pos h)))).0 (negᶠ_cong e))
 
 finite_once : (c d : Bool) (s t : ℤ) (g h : ℕ) → g % 2 ≡ 1 → h % 2 ≡ 1 → finite_value c s g ≈ finite_value d t h → Finite c s g ≡ Finite d t h
-finite_once true true s t g h a b e = let (same_odd, same_Scale) = magnitude_once s t a b (unsigned s t g h a b e) in cc
+finite_once true true s t g h a b e = let (same_odd, same_scale) = magnitude_once s t a b (unsigned s t g h a b e) in cc
 finite_once true false s t g h a b e = absurd (signs_differ s t g h a b e)
 finite_once false true s t g h a b e = absurd (signs_differ t s h g b a (≈_sym e))
-finite_once false false s t g h a b e = let (same_odd, same_Scale) = magnitude_once s t a b e in cc
+finite_once false false s t g h a b e = let (same_odd, same_scale) = magnitude_once s t a b e in cc
 
 -- ---- the theorem
 pub one_form : (n es p : ℕ) (d e : Decoded) → Decodes n es p d → Decodes n es p e → d ≡ e

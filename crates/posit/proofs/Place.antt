@@ -33,7 +33,7 @@ abbrev pub unit_of : ℕ → ℕ → ℕ → ℕ
 unit_of es h w = 2 ^ (h + es - w)
 
 -- ---- the tail
-module _ (es h w q e g : ℕ) (at_least_lem : 2 ^ h ≤ g) (less : g < 2 * 2 ^ h) (low : e < 2 ^ es) (room : w ≤ h + es) where
+module _ (es h w q e g : ℕ) (at_least : 2 ^ h ≤ g) (less : g < 2 * 2 ^ h) (low : e < 2 ^ es) (room : w ≤ h + es) where
   abbrev whole : ℕ
   whole = behind h e g
 

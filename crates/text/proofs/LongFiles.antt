@@ -106,7 +106,7 @@ long_text file = by_length (dec_lt (length file) enough)
   where
     by_length : Dec (length file < enough) → text_of_file (take enough file) ≡ text_of_file file
     by_length (yes short) = ap text_of_file (take_all enough file (omega arith))
-    by_length (no not_Is_short) =
+    by_length (no not_short) =
         let long : enough ≤ length file = omega arith in
         refused_text (take enough file) (long_refused (take enough file) (omega (arith, cut_length file long)))
         ∙ ap (λ (v : Verdict). refusal_line v.number v.place) (same_verdict file long)
