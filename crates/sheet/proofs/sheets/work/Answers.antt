@@ -77,9 +77,8 @@ rows_counted c =
 
 pub write_rows-requires : goal.write_rows-requires
 write_rows-requires c =
-    let e = (goal.at.write_rows-requires c).Else-worked_number-ne-DONE in
     let f = fit (goal.at.write_rows-requires c).Else-limits_number-ne-DONE in
-    (e.work_steps-worked.ensures.as_many, omega (arith, f.few_inputs, f.few_steps), omega (arith, f.room))
+    (c.work_steps-worked.ensures.as_many, omega (arith, f.few_inputs, f.few_steps), omega (arith, f.room))
 
 pub overflow_cast-result : goal.overflow_cast-result
 overflow_cast-result c =

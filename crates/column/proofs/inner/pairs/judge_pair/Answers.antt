@@ -29,8 +29,7 @@ returns-then-right_number-ne-DONE c =
 
 pub has_zero-requires : goal.has_zero-requires
 has_zero-requires c =
-    let s = (goal.at.has_zero-requires c).Start in
-    (s.requires, passing_real s.args.n s.args.place s.args.b (right_passed (goal.at.has_zero-requires c).Else-right_number-ne-DONE))
+    (c.requires, passing_real c.args.n c.args.place c.args.b (right_passed (goal.at.has_zero-requires c).Else-right_number-ne-DONE))
 
 pub returns-then-has_zero : goal.returns-then-has_zero
 returns-then-has_zero c =

@@ -32,9 +32,6 @@ returns-then-number-ne-DONE c =
     let i = t.loop-i.i in
     says_by (next_pair t) (says_first (pair_tests a.n a.es a.op i (get_or a.left.now i 0) (get_or a.right.now i 0)) _ c.judge_pair-judged.ensures c.if-number-ne-DONE.true)
 
-pub loop-i-smaller : goal.loop-i-smaller
-loop-i-smaller c = omega arith
-
 pub loop-i-preserved : goal.loop-i-preserved
 loop-i-preserved c =
     let t = (goal.at.loop-i-preserved c).In-loop-i in

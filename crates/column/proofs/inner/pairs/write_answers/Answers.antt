@@ -17,29 +17,22 @@ loop-i-init c = (omega arith, refl, copy_none _ _)
 next_fits : (c : In-loop-i) → let a = c.args in let i = c.loop-i.i in
     PairFits a.n a.es a.op (get_or a.left.now i 0) (get_or a.right.now i 0)
 next_fits c =
-    let s = (goal.at.In-loop-i c).Start in
-    let a = s.args in
-    pair_passes a.n a.es a.op a.left.now a.right.now s.requires.fits.2
-    (passing_of (pairs_refusing a.n a.es a.op 0 a.left.now a.right.now) s.requires.passes) c.loop-i.i c.loop-i-test.true
+    let a = c.args in
+    pair_passes a.n a.es a.op a.left.now a.right.now c.requires.fits.2
+    (passing_of (pairs_refusing a.n a.es a.op 0 a.left.now a.right.now) c.requires.passes) c.loop-i.i c.loop-i-test.true
 
 pub operate_words-requires : goal.operate_words-requires
 operate_words-requires c =
     let t = (goal.at.operate_words-requires c).In-loop-i in
-    let s = (goal.at.operate_words-requires c).Start in
-    (s.requires.fits.0, s.requires.fits.1, (next_fits t).left_real, (next_fits t).right_real)
-
-pub loop-i-smaller : goal.loop-i-smaller
-loop-i-smaller c = omega arith
+    (c.requires.fits.0, c.requires.fits.1, (next_fits t).left_real, (next_fits t).right_real)
 
 pub loop-i-preserved : goal.loop-i-preserved
 loop-i-preserved c =
-    let t = (goal.at.loop-i-preserved c).In-loop-i in
-    let s = (goal.at.loop-i-preserved c).Start in
-    let l = t.loop-i in
-    let as_many = length_answers s.args.n s.args.es s.args.op s.args.left.now s.args.right.now s.requires.fits.2 in
+    let l = c.loop-i in
+    let as_many = length_answers c.args.n c.args.es c.args.op c.args.left.now c.args.right.now c.requires.fits.2 in
     let next =
-    copy_one s.args.out.now (answers_of s.args.n s.args.es s.args.op s.args.left.now s.args.right.now) l.invariant.2 (omega arith) (omega arith)
-    (c.operate_words.ensures ∙ sym (answer_at s.args.n s.args.es s.args.op s.args.left.now s.args.right.now l.i t.loop-i-test.true (omega arith)))
+    copy_one c.args.out.now (answers_of c.args.n c.args.es c.args.op c.args.left.now c.args.right.now) l.invariant.2 (omega arith) (omega arith)
+    (c.operate_words.ensures ∙ sym (answer_at c.args.n c.args.es c.args.op c.args.left.now c.args.right.now l.i c.loop-i-test.true (omega arith)))
     in
     (omega arith, copy_length _ _ next (omega arith) (omega arith), next)
 
@@ -48,6 +41,5 @@ shape_of-out c = c.loop-i.invariant.1
 
 pub returns : goal.returns
 returns c =
-    let s = (goal.at.returns c).Start in
-    let as_many = length_answers s.args.n s.args.es s.args.op s.args.left.now s.args.right.now s.requires.fits.2 in
+    let as_many = length_answers c.args.n c.args.es c.args.op c.args.left.now c.args.right.now c.requires.fits.2 in
     copy_whole _ _ c.loop-i.invariant.2 (omega arith) as_many

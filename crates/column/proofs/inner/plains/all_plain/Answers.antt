@@ -8,17 +8,13 @@ use Rattle.column.proofs.inner.plains.all_plain.Goals.{In-loop-i}
 pub loop-i-init : goal.loop-i-init
 loop-i-init c = (omega arith, refl)
 
-pub loop-i-smaller : goal.loop-i-smaller
-loop-i-smaller c = omega arith
-
 pub loop-i-preserved : goal.loop-i-preserved
 loop-i-preserved c =
-    let t = (goal.at.loop-i-preserved c).In-loop-i in
-    let a = t.args in
-    let l = t.loop-i in (
+    let a = c.args in
+    let l = c.loop-i in (
       omega arith,
       l.invariant.1
-          ∙ faults_next a.n l.i l.faults c.spread_fault.result c.plain_fault.result a.left.now a.right.now t.loop-i-test.true (omega arith)
+          ∙ faults_next a.n l.i l.faults c.spread_fault.result c.plain_fault.result a.left.now a.right.now c.loop-i-test.true (omega arith)
           c.spread_fault.ensures c.plain_fault.ensures,
     )
 

@@ -19,29 +19,22 @@ loop-i-init c = (omega arith, refl, copy_none _ _)
 next_plain : (c : In-loop-i) → let a = c.args in let i = c.loop-i.i in
     (is_spread a.n (get_or a.left.now i 0) ≡ true) × (is_plain a.n (get_or a.right.now i 0) ≡ true)
 next_plain c =
-    let s = (goal.at.In-loop-i c).Start in
-    let a = s.args in
-    plain_at a.n a.left.now a.right.now (way_plain a.n a.op a.left.now a.right.now s.requires.plain) c.loop-i.i c.loop-i-test.true (omega arith)
+    let a = c.args in
+    plain_at a.n a.left.now a.right.now (way_plain a.n a.op a.left.now a.right.now c.requires.plain) c.loop-i.i c.loop-i-test.true (omega arith)
 
 pub plain_answer-requires : goal.plain_answer-requires
 plain_answer-requires c =
     let t = (goal.at.plain_answer-requires c).In-loop-i in
-    let s = (goal.at.plain_answer-requires c).Start in
-    let a = s.args in
-    (s.requires.fits.0, s.requires.fits.1, way_other a.n a.op a.left.now a.right.now s.requires.plain, (next_plain t).0, (next_plain t).1)
-
-pub loop-i-smaller : goal.loop-i-smaller
-loop-i-smaller c = omega arith
+    let a = c.args in
+    (c.requires.fits.0, c.requires.fits.1, way_other a.n a.op a.left.now a.right.now c.requires.plain, (next_plain t).0, (next_plain t).1)
 
 pub loop-i-preserved : goal.loop-i-preserved
 loop-i-preserved c =
-    let t = (goal.at.loop-i-preserved c).In-loop-i in
-    let s = (goal.at.loop-i-preserved c).Start in
-    let l = t.loop-i in
-    let as_many = length_answers s.args.n s.args.es s.args.op s.args.left.now s.args.right.now s.requires.fits.2 in
+    let l = c.loop-i in
+    let as_many = length_answers c.args.n c.args.es c.args.op c.args.left.now c.args.right.now c.requires.fits.2 in
     let next =
-    copy_one s.args.out.now (answers_of s.args.n s.args.es s.args.op s.args.left.now s.args.right.now) l.invariant.2 (omega arith) (omega arith)
-    (c.plain_answer.ensures ∙ sym (answer_at s.args.n s.args.es s.args.op s.args.left.now s.args.right.now l.i t.loop-i-test.true (omega arith)))
+    copy_one c.args.out.now (answers_of c.args.n c.args.es c.args.op c.args.left.now c.args.right.now) l.invariant.2 (omega arith) (omega arith)
+    (c.plain_answer.ensures ∙ sym (answer_at c.args.n c.args.es c.args.op c.args.left.now c.args.right.now l.i c.loop-i-test.true (omega arith)))
     in
     (omega arith, copy_length _ _ next (omega arith) (omega arith), next)
 
@@ -50,6 +43,5 @@ shape_of-out c = c.loop-i.invariant.1
 
 pub returns : goal.returns
 returns c =
-    let s = (goal.at.returns c).Start in
-    let as_many = length_answers s.args.n s.args.es s.args.op s.args.left.now s.args.right.now s.requires.fits.2 in
+    let as_many = length_answers c.args.n c.args.es c.args.op c.args.left.now c.args.right.now c.requires.fits.2 in
     copy_whole _ _ c.loop-i.invariant.2 (omega arith) as_many

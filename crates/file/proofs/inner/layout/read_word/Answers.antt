@@ -36,9 +36,6 @@ overflow_mul-word c = record { fits = omega (arith, grown c, fits c) }
 pub overflow_add-word-in-loop-left : goal.overflow_add-word-in-loop-left
 overflow_add-word-in-loop-left c = record { fits = omega (arith, grown c, fits c) }
 
-pub loop-left-smaller : goal.loop-left-smaller
-loop-left-smaller c = omega arith
-
 pub loop-left-preserved : goal.loop-left-preserved
 loop-left-preserved c = (omega arith, grown c)
 

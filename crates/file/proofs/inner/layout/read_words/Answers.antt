@@ -12,9 +12,6 @@ use Rattle.file.proofs.inner.layout.read_words.Goals as goal
 pub loop-i-init : goal.loop-i-init
 loop-i-init c = (omega arith, length-replicate {A = ℕ} 32 0, copy_none _ _)
 
-pub loop-i-smaller : goal.loop-i-smaller
-loop-i-smaller c = omega arith
-
 pub loop-i-preserved : goal.loop-i-preserved
 loop-i-preserved c =
     let a = c.args in

@@ -10,9 +10,6 @@ use Rattle.sheet.proofs.inner.steps.first_rows.Goals as goal
 pub loop-i-init : goal.loop-i-init
 loop-i-init c = (omega arith, length-replicate {A = ℕ} 96 0, copy_none _ _)
 
-pub loop-i-smaller : goal.loop-i-smaller
-loop-i-smaller c = omega arith
-
 pub loop-i-preserved : goal.loop-i-preserved
 loop-i-preserved c =
     let l = c.loop-i in

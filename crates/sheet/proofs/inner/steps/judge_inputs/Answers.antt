@@ -33,9 +33,6 @@ returns-then-number-ne-DONE c =
     let w = get_or a.inputs.now i 0 in
     says_by (next_input t) (says_first (word_tests a.n i w) _ (word_says a.n i w c.judge_word-judged.ensures) c.if-number-ne-DONE.true)
 
-pub loop-i-smaller : goal.loop-i-smaller
-loop-i-smaller c = omega arith
-
 pub loop-i-preserved : goal.loop-i-preserved
 loop-i-preserved c =
     let t = (goal.at.loop-i-preserved c).In-loop-i in

@@ -41,7 +41,7 @@ earlier_passed c =
 -- ---- the divisor is the right row's word
 divisor_is : (c : Else-row-right) → let s = (goal.at.Else-row-right c).Start in get_or (worked s) s.args.right 0 ≡ get_or s.args.rows.now s.args.right 0
 unfolding worked
-divisor_is c = let s = (goal.at.Else-row-right c).Start in get_or-take s.args.row s.args.rows.now s.args.right 0 c.if-row-right.false
+divisor_is c = get_or-take c.args.row c.args.rows.now c.args.right 0 c.if-row-right.false
 
 pub returns-then-op-gt-LAST_OPERATION : goal.returns-then-op-gt-LAST_OPERATION
 unfolding worked
@@ -75,8 +75,7 @@ zero_said : (c : After-has_zero) → let s = (goal.at.After-has_zero c).Start in
     c.has_zero.result ≡ is_member s.args.n s.args.es (get_or (worked s) s.args.right 0) (whole (pos 0))
 zero_said c =
     let e = (goal.at.After-has_zero c).Else-row-right in
-    let s = (goal.at.After-has_zero c).Start in
-    c.has_zero.ensures ∙ ap (λ (w : ℕ). is_member s.args.n s.args.es w (whole (pos 0))) (sym (divisor_is e))
+    c.has_zero.ensures ∙ ap (λ (w : ℕ). is_member c.args.n c.args.es w (whole (pos 0))) (sym (divisor_is e))
 
 pub returns-then-has_zero : goal.returns-then-has_zero
 unfolding worked

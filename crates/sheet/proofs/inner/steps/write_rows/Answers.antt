@@ -9,15 +9,10 @@ use Rattle.sheet.proofs.inner.steps.write_rows.Goals.{After-way_told-1, At-loop-
 pub loop-i-init : goal.loop-i-init
 loop-i-init c = (omega arith, refl, copy_none _ _)
 
-pub loop-i-smaller : goal.loop-i-smaller
-loop-i-smaller c = omega arith
-
 pub loop-i-preserved : goal.loop-i-preserved
 loop-i-preserved c =
-    let t = (goal.at.loop-i-preserved c).After-way_told-1 in
-    let l = t.loop-i in
-    let s = (goal.at.loop-i-preserved c).At-loop-i in
-    let next = copy_one s.args.lent.now s.args.rows.now l.invariant.2 (omega arith) (omega arith) refl in
+    let l = c.loop-i in
+    let next = copy_one c.args.lent.now c.args.rows.now l.invariant.2 (omega arith) (omega arith) refl in
     (omega arith, copy_length _ _ next (omega arith) (omega arith), next)
 
 pub shape_of-lent : goal.shape_of-lent
@@ -25,7 +20,6 @@ shape_of-lent c = c.loop-i.invariant.1
 
 pub returns : goal.returns
 returns c =
-    let s = (goal.at.returns c).Start in
     let l = c.loop-i in
-    let end : l.i ≡ s.args.count = omega arith in
-    copy_all s.args.lent.now s.args.rows.now (subst (λ (k : ℕ). Copied s.args.lent.now s.args.rows.now k l.lent) end l.invariant.2)
+    let end : l.i ≡ c.args.count = omega arith in
+    copy_all c.args.lent.now c.args.rows.now (subst (λ (k : ℕ). Copied c.args.lent.now c.args.rows.now k l.lent) end l.invariant.2)

@@ -23,8 +23,7 @@ module _ (c : Start) where
 numbered : (c : After-put_number-numbered) → let a = c.args in
     Put a.at (row_word ++ field (decimal a.row)) a.buffer.now c.put_number-numbered.new.buffer c.put_number-numbered.result
 numbered c =
-    let s = (goal.at.After-put_number-numbered c).Start in
-    put_next c.put-named.ensures (omega (arith, s.requires.2)) c.put_number-numbered.ensures
+    put_next c.put-named.ensures (omega (arith, c.requires.2)) c.put_number-numbered.ensures
 
 ended : (c : After-put_ends-ended) → let a = c.args in
     Put a.at (row_word ++ field (decimal a.row) ++ range_fields a.n a.word) a.buffer.now c.put_ends-ended.new.buffer c.put_ends-ended.result

@@ -17,38 +17,32 @@ unfolding row_lines
 loop-i-init c = (omega arith, omega arith, refl, put_nothing _)
 
 pub overflow_cast-i : goal.overflow_cast-i
-overflow_cast-i c = let s = (goal.at.overflow_cast-i c).Start in record { fits = omega (arith, s.requires.1) }
+overflow_cast-i c = record { fits = omega (arith, c.requires.1) }
 
 pub put_row-at-requires : goal.put_row-at-requires
 put_row-at-requires c =
-    let s = (goal.at.put_row-at-requires c).Start in
     let l = c.loop-i in
-    (s.requires.0, omega (arith, s.requires.1), omega (arith, s.requires.2, l.invariant.1, l.invariant.2, c.loop-i-test.true))
-
-pub loop-i-smaller : goal.loop-i-smaller
-loop-i-smaller c = omega arith
+    (c.requires.0, omega (arith, c.requires.1), omega (arith, c.requires.2, l.invariant.1, l.invariant.2, c.loop-i-test.true))
 
 pub loop-i-preserved : goal.loop-i-preserved
 loop-i-preserved c =
-    let s = (goal.at.loop-i-preserved c).Start in
     let l = c.loop-i in
     let p = c.put_row-at in
     let more = c.loop-i-test.true in
     let so_far = l.invariant.3 in
-    let short = line_length s.args.n l.i (get_or s.args.rows.now l.i 0) (omega (arith, s.requires.1)) in
+    let short = line_length c.args.n l.i (get_or c.args.rows.now l.i 0) (omega (arith, c.requires.1)) in
     let bound : p.result ≤ 21 * (l.i + 1) = omega (arith, p.ensures.next, l.invariant.1) in
     let next =
-    subst (λ (text : List ℕ). Put 0 text s.args.buffer.now p.new.buffer p.result) (sym (next_line s.args.n s.args.rows.now l.i more))
-    (put_next so_far (omega (arith, so_far.next, s.requires.2)) p.ensures)
+    subst (λ (text : List ℕ). Put 0 text c.args.buffer.now p.new.buffer p.result) (sym (next_line c.args.n c.args.rows.now l.i more))
+    (put_next so_far (omega (arith, so_far.next, c.requires.2)) p.ensures)
     in
-    (omega arith, bound, put_length next (omega (arith, next.next, s.requires.2)), next)
+    (omega arith, bound, put_length next (omega (arith, next.next, c.requires.2)), next)
 
 pub shape_of-buffer : goal.shape_of-buffer
 shape_of-buffer c = c.loop-i.invariant.2
 
 pub returns : goal.returns
 returns c =
-    let s = (goal.at.returns c).Start in
     let l = c.loop-i in
-    let all = take_all l.i s.args.rows.now (omega arith) in
-    subst (λ (rows : List ℕ). Put 0 (row_lines s.args.n 0 rows) s.args.buffer.now l.buffer l.at) all l.invariant.3
+    let all = take_all l.i c.args.rows.now (omega arith) in
+    subst (λ (rows : List ℕ). Put 0 (row_lines c.args.n 0 rows) c.args.buffer.now l.buffer l.at) all l.invariant.3

@@ -8,24 +8,11 @@ use Rattle.text.proofs.inner.put.put.Goals.{Start}
 pub loop-i-init : goal.loop-i-init
 loop-i-init c = (omega arith, refl, put_none _ _ _)
 
-pub overflow_add-buffer : goal.overflow_add-buffer
-overflow_add-buffer c = omega arith
-
-pub bounds-buffer-at : goal.bounds-buffer-at
-bounds-buffer-at c = omega arith
-
-pub loop-i-smaller : goal.loop-i-smaller
-loop-i-smaller c = omega arith
-
 pub loop-i-preserved : goal.loop-i-preserved
 loop-i-preserved c =
     let l = c.loop-i in
-    let s = (goal.at.loop-i-preserved c).Start in
-    let next = put_one s.args.at s.args.bytes.now s.args.buffer.now s.requires l.invariant.2 (omega arith) refl in
-    (omega arith, putting_length _ _ _ s.requires next (omega arith), next)
-
-pub overflow_add-result : goal.overflow_add-result
-overflow_add-result c = omega arith
+    let next = put_one c.args.at c.args.bytes.now c.args.buffer.now c.requires l.invariant.2 (omega arith) refl in
+    (omega arith, putting_length _ _ _ c.requires next (omega arith), next)
 
 pub shape_of-buffer : goal.shape_of-buffer
 shape_of-buffer c = c.loop-i.invariant.1
@@ -33,5 +20,4 @@ shape_of-buffer c = c.loop-i.invariant.1
 pub returns : goal.returns
 returns c =
     let l = c.loop-i in
-    let s = (goal.at.returns c).Start in
-    record { next = refl; later = put_all s.args.at s.args.bytes.now s.args.buffer.now l.invariant.2 (omega arith) }
+    record { next = refl; later = put_all c.args.at c.args.bytes.now c.args.buffer.now l.invariant.2 (omega arith) }
