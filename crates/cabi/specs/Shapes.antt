@@ -1,23 +1,23 @@
 -- The plain shapes of the posit calls' answers: each case of an enum has its number, and the parts that a case lacks are 0, false and +0.0.
-use Rattle.std.specs.Prelude.{Bool, true, false, ℕ, ℤ, pos, eqb, Float}
-use Rattle.posit.specs.declared.answer.Answer.{Answer}
-use Rattle.posit.specs.declared.compare.Comparison.{Comparison}
-use Rattle.posit.specs.declared.compare.Order.{Order}
-use Rattle.posit.specs.declared.compare.Order.TheVariants.{Less, Equal, Greater}
-use Rattle.posit.specs.declared.decode.Decoding.{Decoding}
+use Rattle.std.specs.Prelude.{Bool, true, false, ℕ, ℤ, pos, eqb, Float, Result, Ok, Err}
+use Rattle.std.specs.declared.cmp.Ordering.{Ordering}
+use Rattle.std.specs.declared.cmp.Ordering.TheVariants.{Less, Equal, Greater}
+use Rattle.call.specs.declared.refusal.Refusal.{Refusal}
+use Rattle.call.specs.Number.{number_of}
 use Rattle.posit.specs.declared.decoded.Decoded.{Decoded}
 use Rattle.posit.specs.declared.decoded.Decoded.TheVariants.{Zero, Nar, Finite}
 use Rattle.posit.specs.declared.float.Floated.{Floated}
 use Rattle.posit.specs.declared.float.Floated.TheVariants as floated
-use Rattle.posit.specs.declared.to_float.Floating.{Floating}
 use Rattle.posit.specs.Floats.{plus_zero}
 use Rattle.cabi.specs.declared.shape.PositAnswer.{PositAnswer}
 use Rattle.cabi.specs.declared.shape.PositComparison.{PositComparison}
 use Rattle.cabi.specs.declared.shape.PositDecoding.{PositDecoding}
 use Rattle.cabi.specs.declared.shape.PositFloating.{PositFloating}
 
-abbrev pub of_answer : Answer → PositAnswer
-of_answer x = record { number = x.number; place = x.place; posit = x.posit }
+-- a refusal by its number and place, with 0 for what is refused; else number 0 at place 0
+abbrev pub of_answer : Result ℕ Refusal → PositAnswer
+of_answer (Ok p) = record { number = 0; place = 0; posit = p }
+of_answer (Err e) = record { number = number_of e.reason; place = e.place; posit = 0 }
 
 -- a decoded posit's number: 0 zero, 1 NaR, 2 finite
 abbrev pub kind_number : Decoded → ℕ
@@ -40,25 +40,23 @@ fraction_of Zero = 0
 fraction_of Nar = 0
 fraction_of (Finite negative s g) = g
 
-abbrev pub of_decoding : Decoding → PositDecoding
-of_decoding x =
-    record {
-      number = x.number;
-      place = x.place;
-      kind = kind_number x.decoded;
-      negative = is_negative x.decoded;
-      scale = scale_of x.decoded;
-      fraction = fraction_of x.decoded;
-    }
+abbrev pub decoding_with : ℕ → ℕ → Decoded → PositDecoding
+decoding_with number place d =
+    record { number = number; place = place; kind = kind_number d; negative = is_negative d; scale = scale_of d; fraction = fraction_of d }
+
+abbrev pub of_decoding : Result Decoded Refusal → PositDecoding
+of_decoding (Ok d) = decoding_with 0 0 d
+of_decoding (Err e) = decoding_with (number_of e.reason) e.place Zero
 
 -- an order's number: 0 less, 1 equal, 2 greater
-abbrev pub order_number : Order → ℕ
+abbrev pub order_number : Ordering → ℕ
 order_number Less = 0
 order_number Equal = 1
 order_number Greater = 2
 
-abbrev pub of_comparison : Comparison → PositComparison
-of_comparison x = record { number = x.number; place = x.place; order = order_number x.order }
+abbrev pub of_comparison : Result Ordering Refusal → PositComparison
+of_comparison (Ok o) = record { number = 0; place = 0; order = order_number o }
+of_comparison (Err e) = record { number = number_of e.reason; place = e.place; order = order_number Equal }
 
 abbrev pick : Bool → Decoded → Decoded → Decoded
 pick true a b = a
@@ -77,5 +75,6 @@ abbrev pub float_of : Floated → Float
 float_of (floated.Value x) = x
 float_of floated.Nar = plus_zero
 
-abbrev pub of_floating : Floating → PositFloating
-of_floating x = record { number = x.number; place = x.place; kind = float_kind x.floated; float = float_of x.floated }
+abbrev pub of_floating : Result Floated Refusal → PositFloating
+of_floating (Ok x) = record { number = 0; place = 0; kind = float_kind x; float = float_of x }
+of_floating (Err e) = record { number = number_of e.reason; place = e.place; kind = 0; float = plus_zero }

@@ -3,7 +3,7 @@ ghost use Rattle.std.specs.Prelude.{length};
 ghost use Rattle.column.specs.Column.{verdict_of_columns, answers_of};
 ghost use Rattle.cabi.specs.SheetCalls.{WritesAs};
 
-use super::sheet_shape::{SheetAnswer, of_counted};
+use super::sheet_shape::SheetAnswer;
 use column::columns::combine;
 
 #[unsafe(no_mangle)]
@@ -18,5 +18,5 @@ pub extern "C" fn jorumrain_columns_combine(
 ) -> SheetAnswer
     ensures { WritesAs (verdict_of_columns n es op left.now right.now row (length lent.old)) row (answers_of n es op left.now right.now) lent.old lent.new result }
 {
-    of_counted(combine(n, es, op, left, right, row, lent))
+    combine(n, es, op, left, right, row, lent).into()
 }

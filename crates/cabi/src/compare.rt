@@ -1,12 +1,12 @@
 // Comparing, exported.
 ghost use Rattle.cabi.specs.Calls.{ComparesAs};
 
-use super::shape::{PositComparison, of_comparison};
+use super::shape::PositComparison;
 use posit::compare::compare;
 
 #[unsafe(no_mangle)]
 pub extern "C" fn jorumrain_posit_compare(n: u32, es: u32, p: u32, q: u32) -> PositComparison
     ensures { ComparesAs n es p q result }
 {
-    of_comparison(compare(n, es, p, q))
+    compare(n, es, p, q).into()
 }

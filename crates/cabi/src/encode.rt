@@ -1,7 +1,7 @@
 // Encoding, exported: the kind of the decoded posit by its number, with the parts of a finite one.
 ghost use Rattle.cabi.specs.Calls.{EncodesAs};
 
-use super::shape::{PositAnswer, of_answer, to_decoded};
+use super::shape::{PositAnswer, to_decoded};
 use posit::encode::encode;
 
 #[unsafe(no_mangle)]
@@ -15,5 +15,5 @@ pub extern "C" fn jorumrain_posit_encode(
 ) -> PositAnswer
     ensures { EncodesAs n es kind negative scale fraction result }
 {
-    of_answer(encode(n, es, to_decoded(kind, negative, scale, fraction)))
+    encode(n, es, to_decoded(kind, negative, scale, fraction)).into()
 }

@@ -2,7 +2,7 @@
 ghost use Rattle.word.specs.Member.{Inside, Meets, Below};
 ghost use Rattle.cabi.specs.RangeCalls.{ComparesAs};
 
-use super::range_shape::{RangeReply, of_reply};
+use super::range_shape::RangeReply;
 use word::compare::{below, inside, meets};
 
 // Each member of a is in b.
@@ -10,7 +10,7 @@ use word::compare::{below, inside, meets};
 pub extern "C" fn jorumrain_range_inside(n: u32, es: u32, a: u64, b: u64) -> RangeReply
     ensures { ComparesAs Inside n es a b result }
 {
-    of_reply(inside(n, es, a, b))
+    inside(n, es, a, b).into()
 }
 
 // Some member is in both.
@@ -18,7 +18,7 @@ pub extern "C" fn jorumrain_range_inside(n: u32, es: u32, a: u64, b: u64) -> Ran
 pub extern "C" fn jorumrain_range_meets(n: u32, es: u32, a: u64, b: u64) -> RangeReply
     ensures { ComparesAs Meets n es a b result }
 {
-    of_reply(meets(n, es, a, b))
+    meets(n, es, a, b).into()
 }
 
 // Each member of a is less than each of b.
@@ -26,5 +26,5 @@ pub extern "C" fn jorumrain_range_meets(n: u32, es: u32, a: u64, b: u64) -> Rang
 pub extern "C" fn jorumrain_range_below(n: u32, es: u32, a: u64, b: u64) -> RangeReply
     ensures { ComparesAs Below n es a b result }
 {
-    of_reply(below(n, es, a, b))
+    below(n, es, a, b).into()
 }

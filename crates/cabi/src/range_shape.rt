@@ -2,8 +2,10 @@
 ghost use Rattle.std.specs.Prelude.{◌≡◌};
 ghost use Rattle.cabi.specs.RangeShapes as Spec;
 
+use super::shape::DONE;
+use call::place::LEFT;
+use call::refusal::Refusal;
 use reading::reading::Outgoing;
-use word::answer::{Reply, WordAnswer};
 
 // A refusal's number and place, and a range word.
 #[repr(C)]
@@ -36,36 +38,75 @@ pub struct RangeOutgoing {
     pub empty: bool,
 }
 
-pub fn of_word_answer(x: WordAnswer) -> RangeAnswer
-    ensures { result ≡ Spec.of_word_answer x }
-{
-    RangeAnswer {
-        number: x.number,
-        place: x.place,
-        word: x.word,
+impl From<Result<u64, Refusal>> for RangeAnswer {
+    ghost from_gives = { λ x r. r ≡ Spec.of_word x };
+
+    fn from(answer: Result<u64, Refusal>) -> RangeAnswer {
+        match answer {
+            Ok(word) => RangeAnswer {
+                number: DONE,
+                place: LEFT,
+                word,
+            },
+            Err(Refusal { reason, place }) => RangeAnswer {
+                number: reason.number(),
+                place,
+                word: 0,
+            },
+        }
     }
 }
 
-pub fn of_reply(x: Reply) -> RangeReply
-    ensures { result ≡ Spec.of_reply x }
-{
-    RangeReply {
-        number: x.number,
-        place: x.place,
-        yes: x.yes,
+impl From<Result<bool, Refusal>> for RangeReply {
+    ghost from_gives = { λ x r. r ≡ Spec.of_reply x };
+
+    fn from(answer: Result<bool, Refusal>) -> RangeReply {
+        match answer {
+            Ok(yes) => RangeReply {
+                number: DONE,
+                place: LEFT,
+                yes,
+            },
+            Err(Refusal { reason, place }) => RangeReply {
+                number: reason.number(),
+                place,
+                yes: false,
+            },
+        }
     }
 }
 
-pub fn of_outgoing(x: Outgoing) -> RangeOutgoing
-    ensures { result ≡ Spec.of_outgoing x }
-{
-    RangeOutgoing {
-        number: x.number,
-        place: x.place,
-        low: x.low,
-        high: x.high,
-        low_open: x.low_open,
-        high_open: x.high_open,
-        empty: x.empty,
+impl From<Result<Outgoing, Refusal>> for RangeOutgoing {
+    ghost from_gives = { λ x r. r ≡ Spec.of_outgoing x };
+
+    fn from(answer: Result<Outgoing, Refusal>) -> RangeOutgoing {
+        match answer {
+            Ok(
+                Outgoing {
+                    low,
+                    high,
+                    low_open,
+                    high_open,
+                    empty,
+                },
+            ) => RangeOutgoing {
+                number: DONE,
+                place: LEFT,
+                low,
+                high,
+                low_open,
+                high_open,
+                empty,
+            },
+            Err(Refusal { reason, place }) => RangeOutgoing {
+                number: reason.number(),
+                place,
+                low: 0.0,
+                high: 0.0,
+                low_open: false,
+                high_open: false,
+                empty: false,
+            },
+        }
     }
 }

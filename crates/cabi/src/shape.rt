@@ -2,12 +2,11 @@
 ghost use Rattle.std.specs.Prelude.{◌≡◌};
 ghost use Rattle.cabi.specs.Shapes as Spec;
 
-use posit::answer::Answer;
-use posit::compare::{Comparison, Order};
-use posit::decode::Decoding;
+use call::place::LEFT;
+use call::refusal::Refusal;
 use posit::decoded::Decoded;
 use posit::float::Floated;
-use posit::to_float::Floating;
+use std::cmp::Ordering;
 
 // A refusal's number and place, and a posit.
 #[repr(C)]
@@ -49,6 +48,9 @@ pub struct PositFloating {
     pub float: f64,
 }
 
+// The number of a call that is not refused.
+pub const DONE: u32 = 0;
+
 // The kinds of decoded posits.
 pub const ZERO: u32 = 0;
 
@@ -66,94 +68,103 @@ pub const EQUAL: u32 = 1;
 
 pub const GREATER: u32 = 2;
 
-pub fn of_answer(x: Answer) -> PositAnswer
-    ensures { result ≡ Spec.of_answer x }
-{
-    PositAnswer {
-        number: x.number,
-        place: x.place,
-        posit: x.posit,
+impl From<Result<u32, Refusal>> for PositAnswer {
+    ghost from_gives = { λ x r. r ≡ Spec.of_answer x };
+
+    fn from(answer: Result<u32, Refusal>) -> PositAnswer {
+        match answer {
+            Ok(posit) => PositAnswer {
+                number: DONE,
+                place: LEFT,
+                posit,
+            },
+            Err(Refusal { reason, place }) => PositAnswer {
+                number: reason.number(),
+                place,
+                posit: 0,
+            },
+        }
     }
 }
 
-pub fn of_decoding(x: Decoding) -> PositDecoding
-    ensures { result ≡ Spec.of_decoding x }
+// A decoded posit in its plain shape, under a number and a place.
+fn decoding_with(number: u32, place: u32, decoded: Decoded) -> PositDecoding
+    ensures { result ≡ Spec.decoding_with number place decoded }
 {
-    let number = x.number;
-    let place = x.place;
-    let decoded = x.decoded;
-    match decoded {
-        Decoded::Zero => PositDecoding {
-            number: number,
-            place: place,
-            kind: ZERO,
-            negative: false,
-            scale: 0,
-            fraction: 0,
-        },
-        Decoded::Nar => PositDecoding {
-            number: number,
-            place: place,
-            kind: NAR,
-            negative: false,
-            scale: 0,
-            fraction: 0,
-        },
+    let (kind, negative, scale, fraction) = match decoded {
+        Decoded::Zero => (ZERO, false, 0, 0),
+        Decoded::Nar => (NAR, false, 0, 0),
         Decoded::Finite {
             negative,
             scale,
             fraction,
-        } => PositDecoding {
-            number: number,
-            place: place,
-            kind: FINITE,
-            negative: negative,
-            scale: scale,
-            fraction: fraction,
-        },
+        } => (FINITE, negative, scale, fraction),
+    };
+    PositDecoding {
+        number,
+        place,
+        kind,
+        negative,
+        scale,
+        fraction,
     }
 }
 
-pub fn of_floating(x: Floating) -> PositFloating
-    ensures { result ≡ Spec.of_floating x }
-{
-    let number = x.number;
-    let place = x.place;
-    let floated = x.floated;
-    match floated {
-        Floated::Value(float) => PositFloating {
-            number: number,
-            place: place,
-            kind: FLOAT,
-            float: float,
-        },
-        Floated::Nar => PositFloating {
-            number: number,
-            place: place,
-            kind: NAR,
-            float: 0.0,
-        },
+impl From<Result<Decoded, Refusal>> for PositDecoding {
+    ghost from_gives = { λ x r. r ≡ Spec.of_decoding x };
+
+    fn from(answer: Result<Decoded, Refusal>) -> PositDecoding {
+        match answer {
+            Ok(decoded) => decoding_with(DONE, LEFT, decoded),
+            Err(Refusal { reason, place }) => decoding_with(reason.number(), place, Decoded::Zero),
+        }
     }
 }
 
-fn order_number(x: Order) -> u32
-    ensures { result ≡ Spec.order_number x }
-{
-    match x {
-        Order::Less => LESS,
-        Order::Equal => EQUAL,
-        Order::Greater => GREATER,
+impl From<Result<Floated, Refusal>> for PositFloating {
+    ghost from_gives = { λ x r. r ≡ Spec.of_floating x };
+
+    fn from(answer: Result<Floated, Refusal>) -> PositFloating {
+        let (number, place, kind, float) = match answer {
+            Ok(Floated::Value(float)) => (DONE, LEFT, FLOAT, float),
+            Ok(Floated::Nar) => (DONE, LEFT, NAR, 0.0),
+            Err(Refusal { reason, place }) => (reason.number(), place, FLOAT, 0.0),
+        };
+        PositFloating {
+            number,
+            place,
+            kind,
+            float,
+        }
     }
 }
 
-pub fn of_comparison(x: Comparison) -> PositComparison
-    ensures { result ≡ Spec.of_comparison x }
+fn order_number(order: Ordering) -> u32
+    ensures { result ≡ Spec.order_number order }
 {
-    let order = x.order;
-    PositComparison {
-        number: x.number,
-        place: x.place,
-        order: order_number(order),
+    match order {
+        Ordering::Less => LESS,
+        Ordering::Equal => EQUAL,
+        Ordering::Greater => GREATER,
+    }
+}
+
+impl From<Result<Ordering, Refusal>> for PositComparison {
+    ghost from_gives = { λ x r. r ≡ Spec.of_comparison x };
+
+    fn from(answer: Result<Ordering, Refusal>) -> PositComparison {
+        match answer {
+            Ok(order) => PositComparison {
+                number: DONE,
+                place: LEFT,
+                order: order_number(order),
+            },
+            Err(Refusal { reason, place }) => PositComparison {
+                number: reason.number(),
+                place,
+                order: EQUAL,
+            },
+        }
     }
 }
 
@@ -166,9 +177,9 @@ pub fn to_decoded(kind: u32, negative: bool, scale: i32, fraction: u32) -> Decod
     }
     if kind == FINITE {
         return Decoded::Finite {
-            negative: negative,
-            scale: scale,
-            fraction: fraction,
+            negative,
+            scale,
+            fraction,
         };
     }
     Decoded::Nar

@@ -2,7 +2,9 @@
 ghost use Rattle.std.specs.Prelude.{◌≡◌};
 ghost use Rattle.cabi.specs.SheetShapes as Spec;
 
-use call::counted::Counted;
+use super::shape::DONE;
+use call::place::LEFT;
+use call::refusal::Refusal;
 
 // A refusal's number and place, and the count of words written.
 #[repr(C)]
@@ -13,12 +15,21 @@ pub struct SheetAnswer {
     pub count: u32,
 }
 
-pub fn of_counted(x: Counted) -> SheetAnswer
-    ensures { result ≡ Spec.of_counted x }
-{
-    SheetAnswer {
-        number: x.number,
-        place: x.place,
-        count: x.count,
+impl From<Result<u32, Refusal>> for SheetAnswer {
+    ghost from_gives = { λ x r. r ≡ Spec.of_count x };
+
+    fn from(answer: Result<u32, Refusal>) -> SheetAnswer {
+        match answer {
+            Ok(count) => SheetAnswer {
+                number: DONE,
+                place: LEFT,
+                count,
+            },
+            Err(Refusal { reason, place }) => SheetAnswer {
+                number: reason.number(),
+                place,
+                count: 0,
+            },
+        }
     }
 }

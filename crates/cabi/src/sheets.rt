@@ -3,7 +3,7 @@ ghost use Rattle.std.specs.Prelude.{length};
 ghost use Rattle.sheet.specs.Sheet.{verdict_of_sheet, rows_of, steps_of};
 ghost use Rattle.cabi.specs.SheetCalls.{WritesAs};
 
-use super::sheet_shape::{SheetAnswer, of_counted};
+use super::sheet_shape::SheetAnswer;
 use sheet::sheets::work;
 
 #[unsafe(no_mangle)]
@@ -16,5 +16,5 @@ pub extern "C" fn jorumrain_sheet_work(
 ) -> SheetAnswer
     ensures { WritesAs (verdict_of_sheet n es inputs.now steps.now (length lent.old)) 0 (rows_of n es inputs.now (steps_of steps.now)) lent.old lent.new result }
 {
-    of_counted(work(n, es, inputs, steps, lent))
+    work(n, es, inputs, steps, lent).into()
 }

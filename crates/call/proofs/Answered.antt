@@ -1,29 +1,83 @@
--- An answer by its verdict: refused, or done.
-use mathlib.Core.Path.{◌≡◌, sym, ap, ◌∙◌}
-use mathlib.Core.Logic.{◌≢◌}
-use Prim.Native.Nat.{ℕ, suc}
-use native.Mathlib.Nat.{suc-ne-zero}
-use Rattle.call.specs.declared.judged.Judged.{Judged}
-use Rattle.call.specs.Verdict.{Verdict, Answers, Says, done}
+-- An answer by its verdict: refused, or done; and the numbers that either is.
+use Rattle.std.proofs.Common.{◌≡◌, ◌≢◌, ℕ, ◌-◌, [], ◌∷◌, get_or, refl, sym, ap, ◌∙◌, suc-ne-zero}
+use Rattle.std.specs.Prelude.{Result, Ok, Err, IsErr, IsErrAnd}
+use Rattle.std.proofs.lemmas.Result.{err_from_is_err_and}
+use Rattle.call.specs.declared.reason.Reason.{Reason}
+use Rattle.call.specs.declared.reason.Reason.TheVariants.{OutsideLimits, NoOperation, TooLarge, HoldsInfinity, ZeroDivisor, BadReading, WrongLength, NotEarlier, NoRoom, BadFile}
+use Rattle.call.specs.declared.refusal.Refusal.{Refusal}
+use Rattle.call.specs.Number.{number_of}
+use Rattle.call.specs.Verdict.{Verdict, Answers, Numbers, done, refused}
 
-pub answers_refused : {v : Verdict} {Right Refused : Type 0} {k place : ℕ} → v ≡ record { number = suc k; place = place } → Refused → Answers v (suc k) place Right Refused
-answers_refused {k = k} e f =
+-- no reason has the number of a call that is done
+pub reason_is_some : (e : Reason) → number_of e ≢ 0
+reason_is_some OutsideLimits = suc-ne-zero _
+reason_is_some NoOperation = suc-ne-zero _
+reason_is_some TooLarge = suc-ne-zero _
+reason_is_some HoldsInfinity = suc-ne-zero _
+reason_is_some ZeroDivisor = suc-ne-zero _
+reason_is_some BadReading = suc-ne-zero _
+reason_is_some WrongLength = suc-ne-zero _
+reason_is_some NotEarlier = suc-ne-zero _
+reason_is_some NoRoom = suc-ne-zero _
+reason_is_some BadFile = suc-ne-zero _
+
+pub refuses : {v : Verdict} (e : Refusal) → v ≡ refused e → v.number ≢ 0
+refuses e s z = reason_is_some e.reason (sym (ap (λ (v : Verdict). v.number) s) ∙ z)
+
+pub accepts : {v : Verdict} → v ≡ done → v.number ≡ 0
+accepts s = ap (λ (v : Verdict). v.number) s
+
+pub numbers_refused : {v : Verdict} (e : Refusal) {Right Refused : Type 0} → v ≡ refused e → Refused → Numbers v (number_of e.reason) e.place Right Refused
+numbers_refused e s f =
     record {
-      number_is = sym (ap (λ (x : Verdict). x.number) e);
-      place_is = sym (ap (λ (x : Verdict). x.place) e);
-      right = λ h. absurd (suc-ne-zero k (sym (ap (λ (x : Verdict). x.number) e) ∙ h));
-      refused = λ h. f;
+      number_is = sym (ap (λ (v : Verdict). v.number) s);
+      place_is = sym (ap (λ (v : Verdict). v.place) s);
+      right = λ z. absurd (refuses e s z);
+      refused = λ _. f;
     }
 
-pub answers_done : {v : Verdict} {Right Refused : Type 0} → v ≡ done → Right → Answers v 0 0 Right Refused
-answers_done e r =
+pub numbers_done : {v : Verdict} {Right Refused : Type 0} → v ≡ done → Right → Numbers v 0 0 Right Refused
+numbers_done s r =
     record {
-      number_is = sym (ap (λ (x : Verdict). x.number) e);
-      place_is = sym (ap (λ (x : Verdict). x.place) e);
-      right = λ h. r;
-      refused = λ h. absurd (h (ap (λ (x : Verdict). x.number) e));
+      number_is = sym (ap (λ (v : Verdict). v.number) s);
+      place_is = sym (ap (λ (v : Verdict). v.place) s);
+      right = λ _. r;
+      refused = λ d. absurd (d (accepts s));
     }
 
--- refused by what the machine says of the verdict
-pub refused_as_said : {v : Verdict} {r : Judged} {Right Refused : Type 0} → Says v r → r.number ≢ 0 → Refused → Answers v r.number r.place Right Refused
-refused_as_said s d f = record { number_is = s.number; place_is = s.place; right = λ z. absurd (d (s.number ∙ z)); refused = λ z. f }
+-- ---- a call has one answer
+abbrev reason_of : ℕ → Reason
+reason_of k =
+    get_or (OutsideLimits ∷ NoOperation ∷ TooLarge ∷ HoldsInfinity ∷ ZeroDivisor ∷ BadReading ∷ WrongLength ∷ NotEarlier ∷ NoRoom ∷ BadFile ∷ [])
+    (k - 1) OutsideLimits
+
+reason_back : (e : Reason) → reason_of (number_of e) ≡ e
+reason_back OutsideLimits = refl
+reason_back NoOperation = refl
+reason_back TooLarge = refl
+reason_back HoldsInfinity = refl
+reason_back ZeroDivisor = refl
+reason_back BadReading = refl
+reason_back WrongLength = refl
+reason_back NotEarlier = refl
+reason_back NoRoom = refl
+reason_back BadFile = refl
+
+pub one_reason : (d e : Reason) → number_of d ≡ number_of e → d ≡ e
+one_reason d e s = sym (reason_back d) ∙ ap reason_of s ∙ reason_back e
+
+pub one_refusal : (d e : Refusal) → refused d ≡ refused e → d ≡ e
+one_refusal d e s =
+    let reason = one_reason d.reason e.reason (ap (λ (v : Verdict). v.number) s) in
+    λ i. record { reason = reason i; place = ap (λ (v : Verdict). v.place) s i }
+
+-- where what is right of a call that is done is one value, the call has one answer
+pub one_answer : {A : Type 0} (v : Verdict) (Right : A → Type 0) → (v ≡ done → (x y : A) → Right x → Right y → x ≡ y) → (r q : Result A Refusal) → Answers v Right r → Answers v Right q → r ≡ q
+one_answer v Right once (Ok x) (Ok y) s t = ap Ok (once s.0 x y s.1 t.1)
+one_answer v Right once (Ok x) (Err e) s t = absurd (refuses e t (accepts s.0))
+one_answer v Right once (Err d) (Ok y) s t = absurd (refuses d s (accepts t.0))
+one_answer v Right once (Err d) (Err e) s t = ap Err (one_refusal d e (sym s ∙ t))
+
+-- ---- a call that passes on the refusal of a step
+pub passes_on : {A : Type 0} {v : Verdict} (Right : A → Type 0) (r : Result A Refusal) (d : Refusal) → IsErr r × IsErrAnd r (λ e. e ≡ d) → v ≡ refused d → Answers v Right r
+passes_on Right r d h k = let p = err_from_is_err_and r h.1 in rw (p.1, p.2) k

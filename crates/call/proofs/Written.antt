@@ -6,40 +6,21 @@ use Prim.Native.Nat.{ℕ, zero, suc, ◌+◌, ◌-◌, ◌≤◌}
 use native.Mathlib.Omega.{arith}
 use lib.ListN.{length, take, drop, length-drop, drop_of_length-le}
 use lib.Seq.{take_all, drop-drop}
-use Rattle.call.specs.Verdict.{Verdict, done, Says}
-use Rattle.call.specs.declared.judged.Judged.{Judged}
-use Rattle.call.specs.Written.{Writes, count_of, later_of, overwritten}
-use Rattle.call.proofs.Said.{refuses}
+use Rattle.call.specs.declared.refusal.Refusal.{Refusal}
+use Rattle.call.specs.Verdict.{Verdict, done, refused}
+use Rattle.call.specs.Written.{later_of, overwritten}
+use Rattle.call.proofs.Answered.{refuses, accepts}
 
 -- where the number is not 0
-count_refused : (k count : ℕ) → k ≢ 0 → 0 ≡ count_of k count
-count_refused zero count d = absurd (d refl)
-count_refused (suc k) count d = refl
+later_kept : (k row : ℕ) (words lent : List ℕ) → k ≢ 0 → lent ≡ later_of k row words lent
+later_kept zero row words lent d = absurd (d refl)
+later_kept (suc k) row words lent d = refl
 
-later_refused : (k row : ℕ) (words lent : List ℕ) → k ≢ 0 → lent ≡ later_of k row words lent
-later_refused zero row words lent d = absurd (d refl)
-later_refused (suc k) row words lent d = refl
+pub later_refused : {v : Verdict} (e : Refusal) (row : ℕ) (words lent : List ℕ) → v ≡ refused e → lent ≡ later_of v.number row words lent
+later_refused {v} e row words lent s = later_kept v.number row words lent (refuses e s)
 
-pub writes_refused : {v : Verdict} {row : ℕ} {words lent : List ℕ} {j : Judged} → Says v j → j.number ≢ 0
-    → Writes v row words lent lent (record { number = j.number; place = j.place; count = 0 })
-writes_refused {v} {row} {words} {lent} s d =
-    record {
-      number = s.number;
-      place = s.place;
-      count = count_refused v.number (length words) (refuses s d);
-      later = later_refused v.number row words lent (refuses s d);
-    }
-
-pub writes_done : {v : Verdict} {row : ℕ} {words before after : List ℕ} {count : ℕ} → v ≡ done → count ≡ length words → after ≡ overwritten row words before
-    → Writes v row words before after (record { number = 0; place = 0; count = count })
-writes_done {v} {row} {words} {before} {after} e c l =
-    let z = sym (ap (λ (v : Verdict). v.number) e) in
-    record {
-      number = z;
-      place = sym (ap (λ (v : Verdict). v.place) e);
-      count = c ∙ ap (λ (k : ℕ). count_of k (length words)) z;
-      later = l ∙ ap (λ (k : ℕ). later_of k row words before) z;
-    }
+pub later_done : {v : Verdict} (row : ℕ) (words before : List ℕ) {after : List ℕ} → v ≡ done → after ≡ overwritten row words before → after ≡ later_of v.number row words before
+later_done row words before s l = l ∙ ap (λ (k : ℕ). later_of k row words before) (sym (accepts s))
 
 -- words written to the front of the part from a row on, seen in the whole column
 pub part_back : (row : ℕ) (words lent : List ℕ) → row + length words ≤ length lent

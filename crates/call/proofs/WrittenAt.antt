@@ -7,7 +7,8 @@ use native.Mathlib.Omega.{arith}
 use lib.ListN.{length, get_or, take, drop, length-append, get_or-append}
 use lib.Seq.{length-take-le, get_or-take, get_or-drop, get_or-append-add}
 use Rattle.call.specs.Verdict.{Verdict}
-use Rattle.call.specs.declared.counted.Counted.{Counted}
+use Rattle.std.specs.Prelude.{Result}
+use Rattle.call.specs.declared.refusal.Refusal.{Refusal}
 use Rattle.call.specs.Written.{Writes, overwritten, later_of}
 
 module _ (row : ℕ) (words lent : List ℕ) (room : row + length words ≤ length lent) where
@@ -35,7 +36,7 @@ module _ (row : ℕ) (words lent : List ℕ) (room : row + length words ≤ leng
       ∙ get_or-append-add (take row lent ++ words) (drop (row + length words) lent) k 0
       ∙ get_or-drop (row + length words) lent k 0
 
-module _ {v : Verdict} {row : ℕ} {words before after : List ℕ} {r : Counted} (w : Writes v row words before after r) where
+module _ {v : Verdict} {row : ℕ} {words before after : List ℕ} {r : Result ℕ Refusal} (w : Writes v row words before after r) where
   done_later : v.number ≡ 0 → after ≡ overwritten row words before
   done_later z = w.later ∙ ap (λ (k : ℕ). later_of k row words before) z
 

@@ -1,5 +1,7 @@
 -- The numbers of refusals, by what each is given for; 0 is done.
 use Rattle.std.specs.Prelude.{ℕ}
+use Rattle.call.specs.declared.reason.Reason.{Reason}
+use Rattle.call.specs.declared.reason.Reason.TheVariants.{OutsideLimits, NoOperation, TooLarge, HoldsInfinity, ZeroDivisor, BadReading, WrongLength, NotEarlier, NoRoom, BadFile}
 
 -- n or es outside the format limits
 abbrev pub outside_limits : ℕ
@@ -40,3 +42,16 @@ no_room = 9
 -- no sheet file: too short, mark or version wrong, or wrong length
 abbrev pub bad_file : ℕ
 bad_file = 10
+
+-- the number of a reason
+abbrev pub number_of : Reason → ℕ
+number_of OutsideLimits = outside_limits
+number_of NoOperation = no_operation
+number_of TooLarge = too_large
+number_of HoldsInfinity = holds_infinity
+number_of ZeroDivisor = zero_divisor
+number_of BadReading = wrong_reading
+number_of WrongLength = wrong_length
+number_of NotEarlier = not_earlier
+number_of NoRoom = no_room
+number_of BadFile = bad_file

@@ -1,5 +1,9 @@
 -- Operation numbers: 0 add, 1 subtract, 2 multiply, 3 divide; a number above the last is refused by 2.
-use Rattle.std.specs.Prelude.{ℕ, ltb}
+use Rattle.std.specs.Prelude.{◌≡◌, ℕ, ◌<◌, ltb, Result, MatchResult}
+use Rattle.call.specs.declared.reason.Reason.{Reason}
+use Rattle.call.specs.declared.reason.Reason.TheVariants.{NoOperation}
+use Rattle.call.specs.declared.operation.Operation.{Operation}
+use Rattle.call.specs.declared.operation.Operation.TheVariants.{Add, Subtract, Multiply, Divide}
 use Rattle.call.specs.Number.{no_operation}
 use Rattle.call.specs.Place.{left}
 use Rattle.call.specs.Verdict.{Test}
@@ -18,6 +22,17 @@ over = 3
 
 abbrev pub last_operation : ℕ
 last_operation = over
+
+-- the number of an operation
+abbrev pub number_of : Operation → ℕ
+number_of Add = plus
+number_of Subtract = minus
+number_of Multiply = times
+number_of Divide = over
+
+-- a number names its operation, or none where it is above the last
+abbrev pub Names : ℕ → Result Operation Reason → Type 0
+Names op r = MatchResult r (λ o. number_of o ≡ op) (λ e. (e ≡ NoOperation) × (last_operation < op))
 
 -- 2: operation number above the last
 abbrev pub operation_test_at : ℕ → ℕ → Test

@@ -1,6 +1,7 @@
 -- Refusals: the number that a call comes back with and its place. The first test that hits gives both; where none hits, the call is done.
-use Rattle.std.specs.Prelude.{Bool, true, false, List, [], ◌∷◌, ◌≡◌, ◌≢◌, ℕ}
-use Rattle.call.specs.declared.judged.Judged.{Judged}
+use Rattle.std.specs.Prelude.{Bool, true, false, List, [], ◌∷◌, ◌≡◌, ◌≢◌, ℕ, Result, MatchResult}
+use Rattle.call.specs.declared.refusal.Refusal.{Refusal}
+use Rattle.call.specs.Number.{number_of}
 
 pub record Verdict : Type 0 where
   pub number : ℕ
@@ -19,14 +20,21 @@ unfoldable pub first_hit : List Test → Verdict
 first_hit [] = done
 first_hit (t ∷ ts) = elim t.hit [ true ↦ t.gives | false ↦ first_hit ts ]
 
--- a call comes back with the number and place of its verdict; where it is done its value is right, and refused it is the value for refusals
-pub record Answers (v : Verdict) (number place : ℕ) (Right Refused : Type 0) : Type 0 where
+-- the verdict that a refusal is
+abbrev pub refused : Refusal → Verdict
+refused e = record { number = number_of e.reason; place = e.place }
+
+-- a call comes back with a right answer where its verdict is done, and else with the refusal that its verdict is
+abbrev pub Answers : {A : Type 0} → Verdict → (A → Type 0) → Result A Refusal → Type 0
+Answers v Right r = MatchResult r (λ x. (v ≡ done) × Right x) (λ e. v ≡ refused e)
+
+-- the same of a call that judges and answers nothing else
+abbrev pub Says : Verdict → Result (Unit {0}) Refusal → Type 0
+Says v = Answers v (λ _. Unit {0})
+
+-- the same as numbers: the number and place of the verdict; where it is done the value is right, and refused it is the value for refusals
+pub record Numbers (v : Verdict) (number place : ℕ) (Right Refused : Type 0) : Type 0 where
   pub number_is : number ≡ v.number
   pub place_is : place ≡ v.place
   pub right : v.number ≡ 0 → Right
   pub refused : v.number ≢ 0 → Refused
-
--- a verdict as a pair of numbers
-pub record Says (v : Verdict) (r : Judged) : Type 0 where
-  pub number : r.number ≡ v.number
-  pub place : r.place ≡ v.place

@@ -1,13 +1,8 @@
 -- What a call that writes words into a lent column comes back with, and what the lent column is later.
-use Rattle.std.specs.Prelude.{◌≡◌, List, ◌++◌, ℕ, zero, suc, ◌+◌, ltb, length, take, drop}
+use Rattle.std.specs.Prelude.{Result, ◌≡◌, List, ◌++◌, ℕ, zero, suc, ◌+◌, ltb, length, take, drop}
 use Rattle.call.specs.Number.{no_room}
-use Rattle.call.specs.Verdict.{Verdict, Test}
-use Rattle.call.specs.declared.counted.Counted.{Counted}
-
--- by the number of the verdict: the count of words written, and 0 where the call is refused
-abbrev pub count_of : ℕ → ℕ → ℕ
-count_of zero count = count
-count_of (suc k) count = 0
+use Rattle.call.specs.Verdict.{Verdict, Test, Answers}
+use Rattle.call.specs.declared.refusal.Refusal.{Refusal}
 
 -- words in a column from a row on; what stands before and behind them stays
 abbrev pub overwritten : ℕ → List ℕ → List ℕ → List ℕ
@@ -18,11 +13,9 @@ abbrev pub later_of : ℕ → ℕ → List ℕ → List ℕ → List ℕ
 later_of zero row words lent = overwritten row words lent
 later_of (suc k) row words lent = lent
 
--- the call writes these words from this row on, unless its verdict refuses it
-pub record Writes (v : Verdict) (row : ℕ) (words before after : List ℕ) (r : Counted) : Type 0 where
-  pub number : r.number ≡ v.number
-  pub place : r.place ≡ v.place
-  pub count : r.count ≡ count_of v.number (length words)
+-- the call writes these words from this row on and answers how many they are, unless its verdict refuses it
+pub record Writes (v : Verdict) (row : ℕ) (words before after : List ℕ) (r : Result ℕ Refusal) : Type 0 where
+  pub count : Answers v (λ (count : ℕ). count ≡ length words) r
   pub later : after ≡ later_of v.number row words before
 
 -- 9: the named row plus the words to be written exceeds the lent column's length

@@ -1,8 +1,7 @@
-// What every call shares: the numbers of refusals, their places, the numbers of operations, a verdict as the machine says it, and a count.
+// What every call shares: the reasons of refusals, their places, the operations, and what is known of lent memory.
 #![tactic(auto)]
 
-pub mod counted;
-pub mod judged;
-pub mod number;
 pub mod operation;
 pub mod place;
+pub mod reason;
+pub mod refusal;

@@ -20,7 +20,7 @@ use Rattle.posit.specs.Format.{Format, nar, max_pos, Finite}
 use Rattle.posit.specs.Value.{value}
 use Rattle.posit.specs.Locating.{IsFloor, Locates, given}
 use Rattle.posit.specs.Parts.{chosen_by}
-use Rattle.posit.specs.Magnitudes.{Words, with_signᶠ}
+use Rattle.posit.specs.Magnitudes.{with_signᶠ}
 use Rattle.posit.proofs.Patterns.{some_bit, two_bits, nar_large, small_finite, increasing}
 use Rattle.posit.proofs.Mirror.{nar_is_half, power_wider}
 use Rattle.posit.proofs.Wider.{value_wider}
@@ -170,7 +170,7 @@ and_true : (b : Bool) → (b && true) ≡ b
 and_true true = refl
 and_true false = refl
 
-module _ {n es : ℕ} (f : Format n es) {x : Magnitude} (w : Words x) {L : ℕ} {exact : Bool} (l : Locates n es x.g x.s x.a L exact) where
+module _ {n es : ℕ} (f : Format n es) (x : Magnitude) {L : ℕ} {exact : Bool} (l : Locates n es x.g x.s x.a L exact) where
   wide : 3 ≤ n
   wide = f.wide_enough
 
@@ -209,9 +209,9 @@ from_fits {n} {L} w exact h = by exact (parity L)
     by true (inl z) = omega (arith, from_met n L z, power_wider n)
     by false (inl z) = omega (arith, from_missed n L z, power_wider n, even_gap (L / 2) (nar n) (omega arith) (nar_is_half n (some_bit n w)) h)
 
-pub from_fits_as : {n es : ℕ} → Format n es → {x : Magnitude} → Words x → {L : ℕ} {exact : Bool} → Locates n es x.g x.s x.a L exact
+pub from_fits_as : {n es : ℕ} → Format n es → (x : Magnitude) → {L : ℕ} {exact : Bool} → Locates n es x.g x.s x.a L exact
     → (b : Bool) {p : ℕ} → p ≡ cell_from n L b → p ≤ top_cell n
-from_fits_as f w l b e = rw e (from_fits f.wide_enough b (pattern_fits f w l))
+from_fits_as f x l b e = rw e (from_fits f.wide_enough b (pattern_fits f x l))
 
 -- ---- the machine's marks
 pub mark_fits : (b : Bool) → bool_byte b ≤ 1

@@ -26,13 +26,12 @@ use Rattle.posit.proofs.Patterns.{some_bit}
 use Rattle.posit.proofs.Operated.{zero_value}
 use Rattle.posit.proofs.Summed.{sign_twice}
 use Rattle.posit.proofs.Mirror.{nar_is_half, power_wider, Side, below, above, side, negated_positive, units_below, units_above, value_above}
-use Rattle.code.specs.declared.inner.sum.SignedSum.{SignedSum}
-use Rattle.code.specs.declared.inner.sum.SignedSum.TheVariants.{Nothing, Something}
+use Rattle.std.specs.Prelude.{Option, Some, None}
 use Rattle.code.specs.Code.{code_value, CodeOf}
 use Rattle.code.specs.Coded.{Codes, IsSignedSum}
 use Rattle.code.specs.Step.{StepOf}
 use Rattle.code.proofs.Summed.{none_over}
-use Rattle.cell.specs.declared.inner.signed.Signed.{Signed}
+use Rattle.posit.specs.declared.inner.signed.Signed.{Signed}
 use Rattle.word.specs.Numbered.{count, pattern_at, number_of, value_at}
 use Rattle.word.specs.Spans.{top_cell}
 use Rattle.word.specs.Computed.{cell_of}
@@ -103,7 +102,7 @@ above_signed k = record { code = k.code; says = k.says }
 
 -- ---- the cell of an exact sum
 module _ (n es : ℕ) (wide : 3 ≤ n) where
-  pub nothing_cell : (z : Fraction) {r : SignedSum} → IsSignedSum es z r → {all : ℕ} → r ≡ Nothing → all ≡ 2 ^ n → all - 1 ≡ cell_of n es z
+  pub nothing_cell : (z : Fraction) {r : Option (Signed ℕ)} → IsSignedSum es z r → {all : ℕ} → r ≡ None → all ≡ 2 ^ n → all - 1 ≡ cell_of n es z
   nothing_cell z k e h = omega (arith, cell_of_nought n es wide (subst (λ r. IsSignedSum es z r) e k))
 
   -- ---- with a 0 the sum is the other posit
@@ -113,14 +112,14 @@ module _ (n es : ℕ) (wide : 3 ≤ n) where
   pub zero_right : {p q r : ℕ} → Spec.Finite n p → q ≡ 0 → r ≡ 2 * number_of n p + 1 → r ≡ cell_of n es (value n es p +ᶠ value n es q)
   zero_right {p} f e h = h ∙ sym (cell_of_posit n es wide f (+ᶠ_cong (≈_refl (value n es p)) (zero_value n es e) ⨾ +ᶠ_idr (value n es p)))
 
-  pub signed_sum : {p q : ℕ} {x y : Signed} → SignedOf n es p x → SignedOf n es q y
+  pub signed_sum : {p q : ℕ} {x y : Signed ℕ} → SignedOf n es p x → SignedOf n es q y
       → cell_of n es (with_signᶠ x.negative (code_value 52 x.size) +ᶠ with_signᶠ y.negative (code_value 52 y.size)) ≡ cell_of n es (value n es p +ᶠ value n es q)
   signed_sum i j = cell_same n es wide (+ᶠ_cong i.says j.says)
 
   pub cell_small : (z : Fraction) {c : ℕ} → n ≤ 16 → c ≡ cell_of n es z → c ≤ 131070
   cell_small z h e = omega (arith, cell_bounded n es wide z, power_wider n, half_small h)
 
-module _ {n es : ℕ} (f : Format n es) (z : Fraction) {r : SignedSum} (k : IsSignedSum es z r) {b : Bool} {x : ℕ} (e : r ≡ Something b x) where
+module _ {n es : ℕ} (f : Format n es) (z : Fraction) {r : Option (Signed ℕ)} (k : IsSignedSum es z r) {b : Bool} {x : ℕ} (e : r ≡ Some (record { negative = b; size = x })) where
   pub something_known : Codes es (with_signᶠ b z) x
   something_known = subst (λ r. IsSignedSum es z r) e k
 

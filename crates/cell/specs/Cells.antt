@@ -6,10 +6,10 @@ use Rattle.bound.specs.Operation.{both}
 use Rattle.bound.specs.Cell.{start_of_bound, end_of_bound}
 use Rattle.bound.specs.End.{read_start, read_end}
 use Rattle.posit.specs.Value.{value}
-use Rattle.posit.specs.Magnitudes.{Within, with_signᶠ}
+use Rattle.posit.specs.Magnitudes.{Knows, with_signᶠ}
 use Rattle.code.specs.Code.{IsCode, code_value}
 use Rattle.posit.specs.declared.inner.magnitude.Magnitude.{Magnitude}
-use Rattle.cell.specs.declared.inner.signed.Signed.{Signed}
+use Rattle.posit.specs.declared.inner.signed.Signed.{Signed}
 use Rattle.word.specs.Word.{tiles}
 use Rattle.word.specs.Numbered.{count, value_at}
 use Rattle.word.specs.declared.inner.span.Span.{Span}
@@ -18,7 +18,7 @@ use Rattle.word.specs.Computed.{cell_of}
 
 -- whatever magnitude x knows, with the sign r is its cell
 abbrev pub CellEach : ℕ → ℕ → Bool → Magnitude → ℕ → Type 0
-CellEach n es negative x r = (z : Fraction) → Within z x → r ≡ cell_of n es (with_signᶠ negative z)
+CellEach n es negative x r = (z : Fraction) → Knows z x → r ≡ cell_of n es (with_signᶠ negative z)
 
 -- the cell of a number above 0 whose floor among the patterns one bit longer is L, and which is L's value or not
 abbrev gap_above : ℕ → Bool → ℕ
@@ -53,7 +53,7 @@ tile_with_sign n true step = tiles n - step
 tile_with_sign n false step = step
 
 -- a finite posit other than 0 as a sign and the code of its size
-pub record SignedOf (n es p : ℕ) (r : Signed) : Type 0 where
+pub record SignedOf (n es p : ℕ) (r : Signed ℕ) : Type 0 where
   pub code : IsCode es r.size
   pub says : with_signᶠ r.negative (code_value 52 r.size) ≈ value n es p
 

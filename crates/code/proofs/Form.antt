@@ -96,6 +96,20 @@ cross : {P Q R : ℕ} (M D g A B C H K : ℕ) → M * H ≡ A * g → D ≡ A * 
 cross M D g A B C H K e d p q r =
     rw (r, p, q) (omega (arith, ap (λ (k : ℕ). k * C) d, ap (λ (k : ℕ). B * K * C * k) e))
 
+-- ---- what the stretched bits b are taken from, and what is taken from them, as the machine does it
+abbrev above_one : ℕ → ℕ → ℕ → ℕ
+above_one n es b = ((((1022 + n) * 2 ^ es + 1023) * 2 ^ 52 + 2 ^ 63 * 2 ^ es) % 2 ^ 64 + (2 ^ 64 - b % 2 ^ 64)) % 2 ^ 64
+
+abbrev below_one : ℕ → ℕ → ℕ → ℕ
+below_one n es b = (b % 2 ^ 64 + (2 ^ 64 - ((1022 + n) * 2 ^ es - 1023) * 2 ^ 52)) % 2 ^ 64
+
+module _ {n es : ℕ} (f : Format n es) where
+  pub stretched_least : 1023 ≤ (1022 + n) * 2 ^ es
+  stretched_least = omega (arith, mul-le-mul_right {m = 1025} {n = 1022 + n} (2 ^ es) (omega (arith, f.wide_enough)), pow_pos es)
+
+  pub stretched_most : (1022 + n) * 2 ^ es ≤ 4152
+  stretched_most = omega (arith, mul-le-mul_right {m = 1022 + n} {n = 1038} (2 ^ es) (omega (arith, f.not_too_wide)), pow_mono {i = es} {j = 2} f.exponent_fits)
+
 -- ---- the code: regime and tail before 52 places, moved up by the exponent size, with the regime counted from 2^-1023
 module _ {n es p : ℕ} (f : Format n es) (u : p < nar n) (o : Reading n es p) where
   abbrev scale : ℕ
@@ -160,29 +174,23 @@ module _ {n es p : ℕ} (f : Format n es) (u : p < nar n) (o : Reading n es p) w
   widths : n * 2 ^ es ≡ m n es + 2 * 2 ^ es
   widths = ap (λ (x : ℕ). x * 2 ^ es) {x = n} {y = n - 2 + 2} (omega (arith, f.wide_enough)) ∙ omega arith
 
-  zeros_code :
-      (b r : ℕ) → b ≡ (o.regime + 1024) * 2 ^ 52 + moved → r < 2 ^ 64 → (r + ((1022 + n) * 2 ^ es - 1023) * 2 ^ 52) % 2 ^ 64 ≡ b * 2 ^ es % 2 ^ 64 → CodeOf n es p r
-  zeros_code b r e l q =
+  zeros_code : (b : ℕ) → b ≡ (o.regime + 1024) * 2 ^ 52 + moved → CodeOf n es p (below_one n es (b * 2 ^ es))
+  zeros_code b e =
       let sum : code_is + ((1022 + n) * 2 ^ es - 1023) * 2 ^ 52 ≡ b * 2 ^ es = omega (arith, ap (λ (x : ℕ). x * 2 ^ es) e, widths, short, lowest, pow_pos es) in
-      let same : r ≡ code_is = omega (arith, sum, q, l, code_less) in
+      let same : below_one n es (b * 2 ^ es) ≡ code_is = omega (arith, sum, code_less, stretched_most f) in
       rw same code_of
 
-  ones_code :
-      (b r : ℕ) → b + moved + o.regime * 2 ^ 52 ≡ (1024 + 2 * (n - 2)) * 2 ^ 52 → r < 2 ^ 64
-      → (r + (2 ^ 63 + b) * 2 ^ es % 2 ^ 64) % 2 ^ 64 ≡ (((1022 + n) * 2 ^ es + 1023) * 2 ^ 52 + 2 ^ 63 * 2 ^ es) % 2 ^ 64 → CodeOf n es p r
-  ones_code b r e l q =
+  ones_code : (b : ℕ) → b + moved + o.regime * 2 ^ 52 ≡ (1024 + 2 * (n - 2)) * 2 ^ 52 → CodeOf n es p (above_one n es ((2 ^ 63 + b) * 2 ^ es))
+  ones_code b e =
       let sum : code_is + b * 2 ^ es ≡ ((1022 + n) * 2 ^ es + 1023) * 2 ^ 52 = omega (arith, ap (λ (x : ℕ). x * 2 ^ es) e, widths, short, lowest) in
-      let same : r ≡ code_is = omega (arith, sum, q, l, code_less) in
+      let same : above_one n es ((2 ^ 63 + b) * 2 ^ es) ≡ code_is = omega (arith, sum, code_less) in
       rw same code_of
 
 -- ---- what the double made of z tells, by the sign of z
 pub record Folds (n es p : ℕ) (z : ℤ) : Type 0 where
   pub number : T (not (is_nan (of_int binary64 z)))
-  pub below :
-      (r : ℕ) → lt_z z (pos 0) ≡ true → r < 2 ^ 64
-      → (r + bits_of z * 2 ^ es % 2 ^ 64) % 2 ^ 64 ≡ (((1022 + n) * 2 ^ es + 1023) * 2 ^ 52 + 2 ^ 63 * 2 ^ es) % 2 ^ 64 → CodeOf n es p r
-  pub above :
-      (r : ℕ) → lt_z z (pos 0) ≡ false → r < 2 ^ 64 → (r + ((1022 + n) * 2 ^ es - 1023) * 2 ^ 52) % 2 ^ 64 ≡ bits_of z * 2 ^ es % 2 ^ 64 → CodeOf n es p r
+  pub below : lt_z z (pos 0) ≡ true → CodeOf n es p (above_one n es (bits_of z * 2 ^ es))
+  pub above : lt_z z (pos 0) ≡ false → CodeOf n es p (below_one n es (bits_of z * 2 ^ es))
 
 -- ---- the difference of two natural numbers
 minus_less : (a b d : ℕ) → a ≡ b + d → pos a -ℤ pos b ≡ pos d
@@ -223,8 +231,8 @@ module _ {n es p : ℕ} (f : Format n es) (u : p < nar n) where
       rw (turned_zeros n p h)
       (record {
         number = whole_number (2 * p) (omega (arith, small));
-        below = λ r no. absurd (false≢true (sym (le-ltb (2 * p) 0 zero-le) ∙ no));
-        above = λ r yes l q. zeros_code f u o (bits_of (pos (2 * p))) r e l q;
+        below = λ no. absurd (false≢true (sym (le-ltb (2 * p) 0 zero-le) ∙ no));
+        above = λ yes. zeros_code f u o (bits_of (pos (2 * p))) e;
       })
 
   ones_folds : (o : Reading n es p) (z : ℕ) → p + z ≡ 2 ^ (n - 1) → 2 * z ≤ 2 ^ (n - 1)
@@ -236,8 +244,8 @@ module _ {n es p : ℕ} (f : Format n es) (u : p < nar n) where
       rw (turned_ones n p k (omega arith) (omega arith))
       (record {
         number = below_number k few;
-        below = λ r yes l q. ones_code f u o (bits_of (pos (suc k))) r (rw twice at e) l (rw (below_bits k few) at q);
-        above = λ r no. absurd (true≢false no);
+        below = λ yes. rw (below_bits k few) (ones_code f u o (bits_of (pos (suc k))) (rw twice at e));
+        above = λ no. absurd (true≢false no);
       })
 
   folds_by_shape : Shape (n - 1) p → Folds n es p (turned n p)
@@ -301,11 +309,3 @@ module _ {n es p : ℕ} (f : Format n es) (z : 0 < p) (u : p < nar n) where
 
   pub folds : Folds n es p (to_z w32 (of_z w32 (machine (bit_xor (2 * p) (2 ^ (n - 1))) (2 ^ (n - 1)))))
   folds = rw (to_z-of_z machine_fits, machine_is) (folds_by_shape f u (shape (n - 1) p z u))
-
--- ---- what the bits are taken from, or what is taken from them
-module _ {n es : ℕ} (h : (3 ≤ n) × (n ≤ 16) × (es ≤ 2)) where
-  pub stretched_least : 1023 ≤ (1022 + n) * 2 ^ es
-  stretched_least = omega (arith, h.0, mul-le-mul_right {m = 1025} {n = 1022 + n} (2 ^ es) (omega (arith, h.0)), pow_pos es)
-
-  pub stretched_most : (1022 + n) * 2 ^ es ≤ 4152
-  stretched_most = omega (arith, mul-le-mul_right {m = 1022 + n} {n = 1038} (2 ^ es) (omega (arith, h.1)), pow_mono {i = es} {j = 2} h.2)

@@ -212,7 +212,7 @@ module _ {es k kept : ℕ} (low : 1022 ≤ k + 48 * 2 ^ es) (high : k < 1022 + 3
   cut_fits : (g : ℕ) → 2 ^ 52 ≤ g → g < 2 ^ 53 → Fits es (cut_bits k g)
   cut_fits g l u = record { at_least = omega arith; less = omega arith; few = omega arith }
 
-  near_codes : {z : Fraction} {s a rest rounded : ℕ} → s + 1075 ≡ k + 1 + a → Within z (record { g = kept; s = s; a = a; lost = not (eqb rest 0) })
+  near_codes : {z : Fraction} {s a rest rounded : ℕ} → s + 1075 ≡ k + 1 + a → Within z kept s a (not (eqb rest 0))
       → Near kept rest rounded → Codes es z (cut_bits k rounded)
   near_codes {z} {s} {a} e w (on_it zeros none same) =
       let scale : scale_in 52 (cut_bits k kept) ≡ k + 1 = omega arith in

@@ -1,5 +1,5 @@
 -- A summand that is far below the other one may be any other so far below: the sum stays between the same two neighbours among the numbers that a code can tell from it.
-use Rattle.std.proofs.Common.{◌≡◌, ℕ, ◌+◌, ◌-◌, ◌*◌, ◌/◌, ◌%◌, ◌^◌, ◌<◌, ◌≤◌, max, Bool, true, false, not, ◌↔◌, pos, refl, ap, lt_of_lt_of_le, mul-le-mul_right, lt_of_mul-lt-mul_right, mul-pos, arith, pow_pos, pow_mono, pow-add, shl_lt, shr-shr}
+use Rattle.std.proofs.Common.{◌≡◌, ℕ, ◌+◌, ◌-◌, ◌*◌, ◌/◌, ◌%◌, ◌^◌, ◌<◌, ◌≤◌, max, Bool, true, false, not, ◌↔◌, Option, None, Some, pos, refl, ap, lt_of_lt_of_le, mul-le-mul_right, lt_of_mul-lt-mul_right, mul-pos, arith, pow_pos, pow_mono, pow-add, shl_lt, shr-shr}
 use mathlib.Core.Logic.Iff
 use native.Mathlib.Decide.{dec_le}
 use lib.Pow.{mod-pow-add}
@@ -13,8 +13,7 @@ use Rattle.exact.proofs.OverPower.{over_power_expand, over_power_≤ᶠ, over_po
 use Rattle.posit.specs.Locating.{given}
 use Rattle.posit.specs.Magnitudes.{with_signᶠ}
 use Rattle.posit.proofs.Summed.{sign_cong}
-use Rattle.code.specs.declared.inner.sum.SignedSum.{SignedSum}
-use Rattle.code.specs.declared.inner.sum.SignedSum.TheVariants.{Nothing, Something}
+use Rattle.posit.specs.declared.inner.signed.Signed.{Signed}
 use Rattle.code.specs.Code.{IsCode, scale_in, digits_in, code_value}
 use Rattle.code.specs.Coded.{Codes, IsSignedSum, first}
 use Rattle.code.proofs.Summed.{alike_over, more_over}
@@ -137,9 +136,9 @@ no_sign : (b : Bool) → with_signᶠ b (whole (pos 0)) ≈ whole (pos 0)
 no_sign true = ≈0.1 refl
 no_sign false = ≈0.1 refl
 
-signed_respects : (es : ℕ) {y z : Fraction} (r : SignedSum) → y ≈ z → IsSignedSum es y r → IsSignedSum es z r
-signed_respects es Nothing e k = ≈_sym e ⨾ k
-signed_respects es (Something b c) e k = codes_respects (sign_cong b e) k
+signed_respects : (es : ℕ) {y z : Fraction} (r : Option (Signed ℕ)) → y ≈ z → IsSignedSum es y r → IsSignedSum es z r
+signed_respects es None e k = ≈_sym e ⨾ k
+signed_respects es (Some s) e k = codes_respects (sign_cong s.negative e) k
 
 module _ (es : ℕ) {j k y z : ℕ} (many : 2 ^ 24 ≤ k) (left : Inside j k y) (right : Inside j k z) (v w : Fraction) where
   told_alike : (b : Bool) (c : ℕ) → with_signᶠ b v ≈ over_power (pos y) (52 + 1023) → with_signᶠ b w ≈ over_power (pos z) (52 + 1023)
@@ -149,13 +148,18 @@ module _ (es : ℕ) {j k y z : ℕ} (many : 2 ^ 24 ≤ k) (left : Inside j k y) 
   some : (b : Bool) → with_signᶠ b v ≈ over_power (pos y) (52 + 1023) → whole (pos 0) <ᶠ with_signᶠ b v
   some b is = <ᶠ_≈ (>0.1 (pos_<ℤ.1 (omega (arith, left.low)))) (≈_sym is)
 
-  signed_alike : (b : Bool) (r : SignedSum) → with_signᶠ b v ≈ over_power (pos y) (52 + 1023) → with_signᶠ b w ≈ over_power (pos z) (52 + 1023)
+  -- and the sign that is told is that of v
+  sign_alike : (b negative : Bool) (c : ℕ) → with_signᶠ b v ≈ over_power (pos y) (52 + 1023) → with_signᶠ b w ≈ over_power (pos z) (52 + 1023)
+      → Codes es (with_signᶠ negative v) c → Codes es (with_signᶠ negative w) c
+  sign_alike true true c is other told = told_alike true c is other told
+  sign_alike true false c is other told = absurd (one_sign true v (some true is) (codes_some told))
+  sign_alike false true c is other told = absurd (one_sign false v (some false is) (codes_some told))
+  sign_alike false false c is other told = told_alike false c is other told
+
+  signed_alike : (b : Bool) (r : Option (Signed ℕ)) → with_signᶠ b v ≈ over_power (pos y) (52 + 1023) → with_signᶠ b w ≈ over_power (pos z) (52 + 1023)
       → IsSignedSum es v r → IsSignedSum es w r
-  signed_alike b Nothing is other none = absurd (not_≈0_of_>0 (some b is) (sign_cong b none ⨾ no_sign b))
-  signed_alike true (Something true c) is other told = told_alike true c is other told
-  signed_alike true (Something false c) is other told = absurd (one_sign true v (some true is) (codes_some told))
-  signed_alike false (Something true c) is other told = absurd (one_sign false v (some false is) (codes_some told))
-  signed_alike false (Something false c) is other told = told_alike false c is other told
+  signed_alike b None is other none = absurd (not_≈0_of_>0 (some b is) (sign_cong b none ⨾ no_sign b))
+  signed_alike b (Some s) is other told = sign_alike b s.negative s.size is other told
 
 -- ---- a code's number, in units of 2^-1075
 abbrev units_of : ℕ → ℕ
@@ -193,7 +197,7 @@ module _ (es x y z : ℕ) (few : x % 2 ^ 38 ≡ 0) (left : scale_in 52 y + 26 �
       inside_difference (scale_in 52 x + 27) (digits_in 52 x / 2 ^ 27) (units_of x) (units_of c) (units_multiple x few) (units_some c) (units_less c (scale_in 52 x) h)
       (omega arith)
 
-  far_alike : (b : Bool) (r : SignedSum)
+  far_alike : (b : Bool) (r : Option (Signed ℕ))
       → IsSignedSum es (with_signᶠ b (code_value 52 x) +ᶠ with_signᶠ b (code_value 52 y)) r
       → IsSignedSum es (with_signᶠ b (code_value 52 x) +ᶠ with_signᶠ b (code_value 52 z)) r
   far_alike b r =
@@ -204,7 +208,7 @@ module _ (es x y z : ℕ) (few : x % 2 ^ 38 ≡ 0) (left : scale_in 52 y + 26 �
       (alike_over (52 + 1023) (units_of x) (units_of y) b)
       (alike_over (52 + 1023) (units_of x) (units_of z) b)
 
-  far_differ : (b : Bool) (r : SignedSum)
+  far_differ : (b : Bool) (r : Option (Signed ℕ))
       → IsSignedSum es (with_signᶠ b (code_value 52 x) +ᶠ with_signᶠ (not b) (code_value 52 y)) r
       → IsSignedSum es (with_signᶠ b (code_value 52 x) +ᶠ with_signᶠ (not b) (code_value 52 z)) r
   far_differ b r =
@@ -215,7 +219,7 @@ module _ (es x y z : ℕ) (few : x % 2 ^ 38 ≡ 0) (left : scale_in 52 y + 26 �
       (more_over (52 + 1023) (units_of x) (units_of y) b (omega (arith, (less_far y left).low)))
       (more_over (52 + 1023) (units_of x) (units_of z) b (omega (arith, (less_far z right).low)))
 
-  far : (s t : Bool) (r : SignedSum)
+  far : (s t : Bool) (r : Option (Signed ℕ))
       → IsSignedSum es (with_signᶠ s (code_value 52 x) +ᶠ with_signᶠ t (code_value 52 y)) r
       → IsSignedSum es (with_signᶠ s (code_value 52 x) +ᶠ with_signᶠ t (code_value 52 z)) r
   far true true r = far_alike true r
@@ -224,7 +228,7 @@ module _ (es x y z : ℕ) (few : x % 2 ^ 38 ≡ 0) (left : scale_in 52 y + 26 �
   far false false r = far_alike false r
 
 -- ---- the smaller one raised
-raised_second : (es x y : ℕ) (s t : Bool) (r : SignedSum) → x % 2 ^ 38 ≡ 0 → y + 26 * 2 ^ 52 ≤ x
+raised_second : (es x y : ℕ) (s t : Bool) (r : Option (Signed ℕ)) → x % 2 ^ 38 ≡ 0 → y + 26 * 2 ^ 52 ≤ x
     → IsSignedSum es (with_signᶠ s (code_value 52 (max x (y - 26 * 2 ^ 52))) +ᶠ with_signᶠ t (code_value 52 (max y (x - 26 * 2 ^ 52)))) r
     → IsSignedSum es (with_signᶠ s (code_value 52 x) +ᶠ with_signᶠ t (code_value 52 y)) r
 raised_second es x y s t r few below k =
@@ -232,7 +236,7 @@ raised_second es x y s t r few below k =
     let rises : max y (x - 26 * 2 ^ 52) ≡ x - 26 * 2 ^ 52 = omega arith in
     far es x (x - 26 * 2 ^ 52) y few (omega arith) (omega arith) s t r (rw (stays, rises) at k)
 
-pub raised_signed : {es x y : ℕ} (s t : Bool) (r : SignedSum) → IsCode es x → IsCode es y
+pub raised_signed : {es x y : ℕ} (s t : Bool) (r : Option (Signed ℕ)) → IsCode es x → IsCode es y
     → IsSignedSum es (with_signᶠ s (code_value 52 (max x (y - 26 * 2 ^ 52))) +ᶠ with_signᶠ t (code_value 52 (max y (x - 26 * 2 ^ 52)))) r
     → IsSignedSum es (with_signᶠ s (code_value 52 x) +ᶠ with_signᶠ t (code_value 52 y)) r
 raised_signed {es} {x} {y} s t r is_x is_y k =
@@ -252,4 +256,4 @@ raised_signed {es} {x} {y} s t r is_x is_y k =
 pub raised_total : {es x y c : ℕ} → IsCode es x → IsCode es y
     → Codes es (code_value 52 (max x (y - 26 * 2 ^ 52)) +ᶠ code_value 52 (max y (x - 26 * 2 ^ 52))) c
     → Codes es (code_value 52 x +ᶠ code_value 52 y) c
-raised_total {c = c} is_x is_y k = raised_signed false false (Something false c) is_x is_y k
+raised_total {c = c} is_x is_y k = raised_signed false false (Some (record { negative = false; size = c })) is_x is_y k

@@ -1,8 +1,8 @@
 -- The sum of two codes that are near is found in the bits of a double: it has no more than 41 digits, so that it is not rounded and its bits are its code.
-use Rattle.std.proofs.Common.{◌≡◌, ℕ, ◌+◌, ◌-◌, ◌*◌, ◌%◌, ◌^◌, ◌<◌, ◌≤◌, max, Bool, true, false, not, T, ltb, leb, ◌≢◌, pos, sym, refl, ap, ◌∙◌, inl, inr, le_trans, lt_of_lt_of_le, mul-le-mul_right, mod-lt, mul_comm, eq-zero-or-pos, le_antisymm, pos_of_ne-zero, mul-pos, zero-add, zero-mul, arith, pow_pos, pow_mono, pow-add, shl_lt, le-ltb, lt-ltb, le-leb}
+use Rattle.std.proofs.Common.{◌≡◌, ℕ, ◌+◌, ◌-◌, ◌*◌, ◌%◌, ◌^◌, ◌<◌, ◌≤◌, max, Bool, true, false, not, T, ltb, leb, ◌≢◌, Option, None, Some, pos, sym, refl, ap, ◌∙◌, inl, inr, le_trans, lt_of_lt_of_le, mul-le-mul_right, mod-lt, mul_comm, eq-zero-or-pos, le_antisymm, pos_of_ne-zero, mul-pos, zero-add, zero-mul, arith, pow_pos, pow_mono, pow-add, shl_lt, le-ltb, lt-ltb, le-leb}
 use native.Mathlib.Nat.{mul-sub}
 use native.Mathlib.Decide.{dec_le, dec_lt}
-use lib.Ieee.{Float, nan, inf, fin, Format, binary64, round, add, neg, sub, is_nan, of_bits, to_bits}
+use lib.Ieee.{Float, nan, inf, fin, Format, binary64, round, add, neg, sub, is_nan, nan_bits, of_bits, to_bits}
 use lib.Ieee.Exact.{HasValue}
 use lib.Ieee.Positive.{first_pos}
 use mir.Val.{bool_byte}
@@ -11,16 +11,19 @@ use Rattle.exact.specs.Fraction.{Fraction, ◌≈◌, over_power, ◌+ᶠ◌}
 use Rattle.exact.proofs.Order.{≈_sym, ◌⨾◌}
 use Rattle.posit.specs.Magnitudes.{with_signᶠ}
 use Rattle.posit.proofs.Summed.{sign_twice, sign_cong}
-use Rattle.code.specs.declared.inner.sum.SignedSum.{SignedSum}
-use Rattle.code.specs.declared.inner.sum.SignedSum.TheVariants.{Nothing, Something}
+use Rattle.posit.specs.declared.inner.signed.Signed.{Signed}
 use Rattle.code.specs.Code.{IsCode, scale_in, digits_in, code_value}
 use Rattle.code.specs.Coded.{Codes, IsSignedSum}
 use Rattle.code.proofs.Summed.{over_both, sign_none, alike_over, more_over, less_over, none_over}
 use Rattle.code.proofs.Doubles.{same_value, no_nan, add_alike, add_more, add_less, add_none, none_written, bits_of}
-use Rattle.code.proofs.CodeBits.{units_of, code_value_says, plain_value, rounded, Bits, value_bits, fifteen, units_by_fifteen, code_held}
+use Rattle.code.proofs.CodeBits.{units_of, code_value_says, code_number, plain_value, plain_number, rounded, Bits, value_bits, fifteen, units_by_fifteen, code_held}
 use Rattle.code.proofs.Known.{bits_codes}
 use Rattle.code.proofs.Higher.{units_less}
 use Rattle.code.proofs.Raised.{raised_code, raised_near, raised_total, raised_signed}
+
+-- a sum that is told
+abbrev signed : Bool → ℕ → Option (Signed ℕ)
+signed negative size = Some (record { negative = negative; size = size })
 
 -- ---- two codes that are near
 -- both are multiples of one power of two, by numbers that together have no more than 41 digits
@@ -226,13 +229,13 @@ module _ (es : ℕ) (small : es ≤ 2) where
     sum_number : T (not (is_nan r))
     sum_number = no_nan r i.negative i.size (2 ^ 1075) i.sized.value
 
-    sum_none : to_bits binary64 r % 2 ^ 63 ≡ 0 → IsSignedSum es z Nothing
+    sum_none : to_bits binary64 r % 2 ^ 63 ≡ 0 → IsSignedSum es z None
     sum_none h =
         ≈_sym (sign_twice i.negative z)
         ⨾ sign_cong i.negative (rw (nothing_left i.sized h) at i.says)
         ⨾ sign_none i.negative 1075
 
-    sum_some : (to_bits binary64 r % 2 ^ 63 ≡ 0 → ⊥) → IsSignedSum es z (Something (leb (2 ^ 63) (to_bits binary64 r)) (to_bits binary64 r % 2 ^ 63))
+    sum_some : (to_bits binary64 r % 2 ^ 63 ≡ 0 → ⊥) → IsSignedSum es z (signed (leb (2 ^ 63) (to_bits binary64 r)) (to_bits binary64 r % 2 ^ 63))
     sum_some some =
         let left = something_left i.sized some in
         rw (size_bits i.sized left, sign_bit i.sized left) (sized_codes i.sized left i.says)
@@ -260,11 +263,17 @@ module _ {es x y a : ℕ} (small : es ≤ 2) (is_x : IsCode es x) (is_y : IsCode
   brought_code : IsCode es a
   brought_code = rw is (raised_code is_x is_y)
 
-  pub brought_least : 2 ^ 52 ≤ a
+  brought_least : 2 ^ 52 ≤ a
   brought_least = omega (arith, (code_held small brought_code).0)
 
   pub brought_less : a < 2047 * 2 ^ 52
   brought_less = (code_held small brought_code).1
+
+  pub brought_number : T (not (nan_bits binary64 a))
+  brought_number = plain_number a brought_least brought_less
+
+  pub brought_signed : (s : Bool) → T (not (nan_bits binary64 (bool_byte s * 2 ^ 63 + a)))
+  brought_signed s = code_number s a brought_least brought_less
 
 module _ {es x y a b : ℕ} (small : es ≤ 2) (is_x : IsCode es x) (is_y : IsCode es y) (is_a : a ≡ max x (y - 26 * 2 ^ 52)) (is_b : b ≡ max y (x - 26 * 2 ^ 52)) where
   both_near : Near es (units_of a) (units_of b)
@@ -300,24 +309,24 @@ module _ {es x y a b : ℕ} (small : es ≤ 2) (is_x : IsCode es x) (is_y : IsCo
 
   -- with signs
   module _ (s t : Bool) where
-    abbrev signed : Float
-    signed = add binary64 (of_bits binary64 (bool_byte s * 2 ^ 63 + a)) (of_bits binary64 (bool_byte t * 2 ^ 63 + b))
+    abbrev both : Float
+    both = add binary64 (of_bits binary64 (bool_byte s * 2 ^ 63 + a)) (of_bits binary64 (bool_byte t * 2 ^ 63 + b))
 
-    signed_is : SumIs es small signed (with_signᶠ s (code_value 52 a) +ᶠ with_signᶠ t (code_value 52 b))
+    signed_is : SumIs es small both (with_signᶠ s (code_value 52 a) +ᶠ with_signᶠ t (code_value 52 b))
     signed_is =
         sum_is es small (units_of a) (units_of b) both_near (of_bits binary64 (bool_byte s * 2 ^ 63 + a)) (of_bits binary64 (bool_byte t * 2 ^ 63 + b)) s t
         (code_value_says s a (brought_least small is_x is_y is_a) (brought_less small is_x is_y is_a)) (code_value_says t b (brought_least small is_y is_x is_b) (brought_less small is_y is_x is_b))
 
-    pub signed_number : T (not (is_nan signed))
+    pub signed_number : T (not (is_nan both))
     signed_number = sum_number es small signed_is
 
-    pub signed_none : to_bits binary64 signed % 2 ^ 63 ≡ 0 → IsSignedSum es (with_signᶠ s (code_value 52 x) +ᶠ with_signᶠ t (code_value 52 y)) Nothing
-    signed_none none = raised_signed s t Nothing is_x is_y (rw (sym is_a, sym is_b) (sum_none es small signed_is none))
+    pub signed_none : to_bits binary64 both % 2 ^ 63 ≡ 0 → IsSignedSum es (with_signᶠ s (code_value 52 x) +ᶠ with_signᶠ t (code_value 52 y)) None
+    signed_none none = raised_signed s t None is_x is_y (rw (sym is_a, sym is_b) (sum_none es small signed_is none))
 
-    abbrev told : SignedSum
-    told = Something (leb (2 ^ 63) (to_bits binary64 signed)) (to_bits binary64 signed % 2 ^ 63)
+    abbrev told : Option (Signed ℕ)
+    told = signed (leb (2 ^ 63) (to_bits binary64 both)) (to_bits binary64 both % 2 ^ 63)
 
-    pub signed_some : (to_bits binary64 signed % 2 ^ 63 ≡ 0 → ⊥) → IsSignedSum es (with_signᶠ s (code_value 52 x) +ᶠ with_signᶠ t (code_value 52 y)) told
+    pub signed_some : (to_bits binary64 both % 2 ^ 63 ≡ 0 → ⊥) → IsSignedSum es (with_signᶠ s (code_value 52 x) +ᶠ with_signᶠ t (code_value 52 y)) told
     signed_some some = raised_signed s t told is_x is_y (rw (sym is_a, sym is_b) (sum_some es small signed_is some))
 
   -- of one less another, which has the sign of the greater
@@ -335,18 +344,18 @@ module _ {es x y a b : ℕ} (small : es ≤ 2) (is_x : IsCode es x) (is_y : IsCo
     turned_sized : Sized es apart negative size
     turned_sized = rw (less_is binary64 (of_bits binary64 a) (of_bits binary64 b)) z
 
-    told_by : 0 < size → with_signᶠ negative (with_signᶠ false (code_value 52 a) +ᶠ with_signᶠ true (code_value 52 b)) ≈ over_power (pos size) 1075 → IsSignedSum es rest (Something negative left)
+    told_by : 0 < size → with_signᶠ negative (with_signᶠ false (code_value 52 a) +ᶠ with_signᶠ true (code_value 52 b)) ≈ over_power (pos size) 1075 → IsSignedSum es rest (signed negative left)
     told_by some says =
-        raised_signed false true (Something negative left) is_x is_y
+        raised_signed false true (signed negative left) is_x is_y
         (rw (sym is_a, sym is_b, size_bits es small turned_sized some) (sized_codes es small turned_sized some says))
 
-  above_zero : y < x → IsSignedSum es rest (Something false left)
+  above_zero : y < x → IsSignedSum es rest (signed false left)
   above_zero less =
       let order : units_of b < units_of a = units_less b a (omega (arith, is_a, is_b)) in
       told_by (more_sized es small (units_of a) (units_of b) both_near false (of_bits binary64 a) (neg (of_bits binary64 b)) plain_left negated_right order)
       (omega arith) (more_over 1075 (units_of a) (units_of b) false (omega arith))
 
-  below_zero : x < y → IsSignedSum es rest (Something true left)
+  below_zero : x < y → IsSignedSum es rest (signed true left)
   below_zero less =
       let order : units_of a < units_of b = units_less a b (omega (arith, is_a, is_b)) in
       told_by (less_sized es small (units_of a) (units_of b) both_near false (of_bits binary64 a) (neg (of_bits binary64 b)) plain_left negated_right order)
@@ -357,7 +366,7 @@ module _ {es x y a b : ℕ} (small : es ≤ 2) (is_x : IsCode es x) (is_y : IsCo
       rw (less_is binary64 (of_bits binary64 a) (of_bits binary64 b))
       (sum_number es small (sum_is es small (units_of a) (units_of b) both_near (of_bits binary64 a) (neg (of_bits binary64 b)) false true plain_left negated_right))
 
-  pub apart_some : x ≢ y → IsSignedSum es rest (Something (ltb x y) left)
+  pub apart_some : x ≢ y → IsSignedSum es rest (signed (ltb x y) left)
   apart_some differ = elim (dec_lt x y) [
     | yes less ↦ rw (lt-ltb x y less) (below_zero less)
     | no not_less ↦ rw (le-ltb x y (omega arith)) (above_zero (omega (arith, differ)))

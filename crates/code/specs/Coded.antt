@@ -1,10 +1,9 @@
 -- What a code tells of an exact result: its first 24 digits behind the first, and whether there is more.
-use Rattle.std.specs.Prelude.{◌≡◌, ℕ, ◌+◌, ◌-◌, ◌*◌, ◌/◌, ◌%◌, ◌^◌, ◌<◌, ◌≤◌, pos}
+use Rattle.std.specs.Prelude.{◌≡◌, ℕ, ◌+◌, ◌-◌, ◌*◌, ◌/◌, ◌%◌, ◌^◌, ◌<◌, ◌≤◌, pos, Option, None, Some}
 use Rattle.exact.specs.Fraction.{Fraction, ◌≈◌, ◌≤ᶠ◌, ◌<ᶠ◌, whole}
 use Rattle.posit.specs.Locating.{given}
 use Rattle.posit.specs.Magnitudes.{with_signᶠ}
-use Rattle.code.specs.declared.inner.sum.SignedSum.{SignedSum}
-use Rattle.code.specs.declared.inner.sum.SignedSum.TheVariants.{Nothing, Something}
+use Rattle.posit.specs.declared.inner.signed.Signed.{Signed}
 use Rattle.code.specs.Code.{scale_in, digits_in, code_value}
 
 -- the regime is at least -48 and less than 32, and no more than forty digits stand behind the first
@@ -26,6 +25,6 @@ pub record Codes (es : ℕ) (z : Fraction) (c : ℕ) : Type 0 where
   pub more_than_it : 0 < c % 2 ^ 28 → code_value 24 (first c) <ᶠ z
 
 -- r is z: nothing, or a sign and what is known of the magnitude
-abbrev pub IsSignedSum : ℕ → Fraction → SignedSum → Type 0
-IsSignedSum es z Nothing = z ≈ whole (pos 0)
-IsSignedSum es z (Something negative size) = Codes es (with_signᶠ negative z) size
+abbrev pub IsSignedSum : ℕ → Fraction → Option (Signed ℕ) → Type 0
+IsSignedSum es z None = z ≈ whole (pos 0)
+IsSignedSum es z (Some s) = Codes es (with_signᶠ s.negative z) s.size

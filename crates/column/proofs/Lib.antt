@@ -1,5 +1,6 @@
 pub mod Limits
 pub mod Pairs
+pub mod Turns
 pub mod Plains
 pub mod ColumnVerdict
 pub mod ColumnTruth

@@ -26,7 +26,7 @@ use Rattle.call.proofs.Tests.{Passing, all_pass, passing_both}
 use Rattle.call.proofs.Facts.{both_parts}
 use Rattle.column.proofs.Pairs.{fits_pair}
 
-regrouped : (a b c d : Bool) → (a && (b && (c && d))) ≡ (((a && b) && c) && d)
+regrouped : (a b c d : Bool) → (a && (b && (c && d))) ≡ ((a && (b && c)) && d)
 regrouped true true c d = refl
 regrouped true false c d = refl
 regrouped false b c d = refl
@@ -48,9 +48,9 @@ module _ (n : ℕ) where
 
   -- ---- the faults of i pairs, joined
   pub faults_next : (i f a b : ℕ) (left right : List ℕ) → i < length left → i < length right → ltb a (2 ^ 63) ≡ is_spread n (get_or left i 0) → ltb b (2 ^ 63) ≡ is_plain n (get_or right i 0)
-      → (ltb f (2 ^ 63) && all_plain n (drop i left) (drop i right)) ≡ (ltb (bit_or (bit_or f a) b) (2 ^ 63) && all_plain n (drop (i + 1) left) (drop (i + 1) right))
+      → (ltb f (2 ^ 63) && all_plain n (drop i left) (drop i right)) ≡ (ltb (bit_or f (bit_or a b)) (2 ^ 63) && all_plain n (drop (i + 1) left) (drop (i + 1) right))
   faults_next i f a b left right hl hr p q =
-      rw (plain_next i left right hl hr, ← p, ← q, or_below (bit_or f a) b, or_below f a) (regrouped (ltb f (2 ^ 63)) (ltb a (2 ^ 63)) (ltb b (2 ^ 63)) _)
+      rw (plain_next i left right hl hr, ← p, ← q, or_below f (bit_or a b), or_below a b) (regrouped (ltb f (2 ^ 63)) (ltb a (2 ^ 63)) (ltb b (2 ^ 63)) _)
 
   pub faults_end : (i f : ℕ) (left right : List ℕ) → length left ≤ i → (ltb f (2 ^ 63) && all_plain n (drop i left) right) ≡ ltb f (2 ^ 63)
   faults_end i f left right h = rw (plain_end i left right h) (and_true (ltb f (2 ^ 63)))

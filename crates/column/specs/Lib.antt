@@ -2,3 +2,4 @@ pub mod Refusal
 pub mod Column
 pub mod Accepted
 pub mod Plains
+pub mod Taken

@@ -15,7 +15,8 @@ use Rattle.file.specs.File.{has_mark, version, version_of, width_of, exponent_si
 use Rattle.sheet.specs.Refusal.{most_inputs, most_steps}
 use Rattle.sheet.specs.Sheet.{steps_of, rows_of, sheet_tests, verdict_of_sheet}
 use Rattle.call.specs.Written.{Writes}
-use Rattle.call.specs.declared.counted.Counted.{Counted}
+use Rattle.std.specs.Prelude.{Result}
+use Rattle.call.specs.declared.refusal.Refusal.{Refusal}
 use Rattle.file.specs.Accepted.{FileFits}
 use Rattle.call.proofs.Tests.{Passing, all_pass, one_passes, Refusing, gives_none, one_refuses, head_passes, tail_passes, passing_skips, first_passes}
 use Rattle.call.proofs.Facts.{either_false, both_parts}
@@ -63,7 +64,7 @@ accepted_passes file lent z = first_passes (file_refusing file) _ z
 pub all_behind : (k : ℕ) (l : List ℕ) → take (length l - k) (drop k l) ≡ drop k l
 all_behind k l = take_all (length l - k) (drop k l) (omega (arith, length-drop k l))
 
-module _ (file inputs steps before after : List ℕ) (r : Counted) where
+module _ (file inputs steps before after : List ℕ) (r : Result ℕ Refusal) where
   pub writes_file : Passing (file_tests file) → inputs ≡ inputs_part file → steps ≡ steps_part file
       → Writes (verdict_of_sheet (width_of file) (exponent_size_of file) inputs steps (length before)) 0 (rows_of (width_of file) (exponent_size_of file) inputs (steps_of steps)) before after r
       → Writes (verdict_of_file file (length before)) 0 (rows_of_file file) before after r

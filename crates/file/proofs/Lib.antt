@@ -3,3 +3,5 @@ pub mod Parts
 pub mod FileTests
 pub mod FileLayout
 pub mod FileVerdict
+pub mod Numbers
+pub mod Marks

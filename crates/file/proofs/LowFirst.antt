@@ -1,11 +1,10 @@
 -- Numbers as bytes, low byte first: the bytes of a number give the number, and the number of some bytes gives the bytes.
 use mathlib.Core.Path.{◌≡◌, refl, ap, ◌∙◌}
 use mathlib.Core.List.{List, [], ◌∷◌}
-use Prim.Native.Nat.{ℕ, zero, suc, ◌+◌, ◌*◌, ◌/◌, ◌%◌, ◌^◌, ◌≤◌, ◌<◌}
-use native.Mathlib.Nat.{pow-suc, le_refl}
+use Prim.Native.Nat.{ℕ, zero, suc, ◌+◌, ◌*◌, ◌/◌, ◌%◌, ◌^◌, ◌<◌}
+use native.Mathlib.Nat.{pow-suc}
 use native.Mathlib.Omega.{arith}
-use lib.ListN.{length, get_or, drop}
-use lib.Seq.{drop-cons}
+use lib.ListN.{length, get_or}
 use Rattle.file.specs.File.{Bytes, low_first, number_of}
 
 -- ---- bytes one by one
@@ -27,18 +26,6 @@ pub number_below : (bytes : List ℕ) → Bytes bytes → number_of bytes < 256 
 unfolding number_of
 number_below [] h = omega arith
 number_below (byte ∷ bytes) h = omega (arith, h.below 0, number_below bytes (bytes_behind h), pow-suc 256 (length bytes))
-
--- one byte more, before those behind it
-pub number_from : (bytes : List ℕ) (at : ℕ) → at < length bytes → number_of (drop at bytes) ≡ get_or bytes at 0 + 256 * number_of (drop (suc at) bytes)
-unfolding number_of
-number_from bytes at h = ap number_of (drop-cons bytes at 0 h)
-
--- the number of the last bytes is not above that of all
-pub number_last : (bytes : List ℕ) (at : ℕ) → number_of (drop at bytes) ≤ number_of bytes
-unfolding number_of
-number_last bytes zero = le_refl _
-number_last [] (suc at) = le_refl _
-number_last (byte ∷ bytes) (suc at) = omega (arith, number_last bytes at)
 
 -- ---- and back
 pub length_low : (k x : ℕ) → length (low_first k x) ≡ k

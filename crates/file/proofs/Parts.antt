@@ -1,14 +1,16 @@
 -- The parts behind a file's head: inputs as words and steps, from their bytes and back.
 use mathlib.Core.Path.{◌≡◌, refl, sym, ap, ◌∙◌}
 use mathlib.Core.List.{List, [], ◌∷◌, ◌++◌, append_assoc}
-use Prim.Native.Nat.{ℕ, zero, suc, ◌+◌, ◌*◌, ◌-◌, ◌^◌, ◌≤◌, ◌<◌}
+use Prim.Native.Nat.{ℕ, zero, suc, ◌+◌, ◌*◌, ◌^◌, ◌≤◌, ◌<◌}
+use native.Mathlib.Numerals.{add-one}
 use native.Mathlib.Omega.{arith}
-use lib.ListN.{length, get_or, take, drop, length-append, length-drop, drop_of_length-le}
-use lib.Seq.{length-take-le, take_at, drop_at, take-add, drop-drop, get_or-drop, get_or-take}
+use lib.ListN.{length, get_or, take, drop, length-append, length-drop}
+use lib.Seq.{length-take-le, take_at, drop_at, take-add, drop-drop, take-take, get_or-drop}
+use Rattle.std.proofs.lemmas.List.{drop-take}
 use Rattle.file.specs.File.{Bytes, word_bytes, low_first, number_of, bytes_of_inputs, bytes_of_steps, words_of}
 use Rattle.sheet.specs.Refusal.{step_bytes}
 use Rattle.sheet.specs.Sheet.{Step, steps_of}
-use Rattle.file.proofs.LowFirst.{no_byte, one_byte, bytes_behind, number_below, number_from, number_last, length_low, low_bytes, number_of_low, low_of_number}
+use Rattle.file.proofs.LowFirst.{no_byte, one_byte, bytes_behind, number_below, length_low, low_bytes, number_of_low, low_of_number}
 
 -- ---- parts of bytes are bytes
 pub bytes_from : (k : ℕ) {bytes : List ℕ} → Bytes bytes → Bytes (drop k bytes)
@@ -23,38 +25,10 @@ pub bytes_both : (bytes : List ℕ) {behind : List ℕ} → Bytes bytes → Byte
 bytes_both [] h more = more
 bytes_both (byte ∷ bytes) h more = one_byte (h.below 0) (bytes_both bytes (bytes_behind h) more)
 
--- ---- the word of eight bytes from a place on
-abbrev pub eight_at : ℕ → List ℕ → List ℕ
-eight_at at bytes = take 8 (drop at bytes)
-
-module _ (bytes : List ℕ) (at : ℕ) (fits : at + 8 ≤ length bytes) where
-  pub length_eight : length (eight_at at bytes) ≡ 8
-  length_eight = length-take-le 8 (drop at bytes) (omega (arith, length-drop at bytes))
-
-  -- no byte is left behind the eighth
-  pub word_begins : 0 ≡ number_of (drop 8 (eight_at at bytes))
-  unfolding number_of
-  word_begins = sym (ap number_of (drop_of_length-le (eight_at at bytes) {i = 8} (omega (arith, length_eight))))
-
-  -- one byte more, from high to low
-  pub word_grows : (left word : ℕ) → 0 < left → left ≤ 8 → word ≡ number_of (drop left (eight_at at bytes))
-      → get_or bytes (at + left - 1) 0 + 256 * word ≡ number_of (drop (left - 1) (eight_at at bytes))
-  word_grows left word some few e =
-      let l = eight_at at bytes in
-      let here : at + (left - 1) ≡ at + left - 1 = omega arith in
-      let byte : get_or l (left - 1) 0 ≡ get_or bytes (at + left - 1) 0 =
-      get_or-take 8 (drop at bytes) (left - 1) 0 (omega arith) ∙ get_or-drop at bytes (left - 1) 0 ∙ ap (λ (k : ℕ). get_or bytes k 0) here in
-      let next : suc (left - 1) ≡ left = omega arith in
-      sym
-      (number_from l (left - 1) (omega (arith, length_eight))
-      ∙ ap (λ (x : ℕ). x + 256 * number_of (drop (suc (left - 1)) l)) byte
-      ∙ ap (λ (k : ℕ). get_or bytes (at + left - 1) 0 + 256 * number_of (drop k l)) next
-      ∙ ap (λ (x : ℕ). get_or bytes (at + left - 1) 0 + 256 * x) (sym e))
-
-  pub word_fits : Bytes bytes → (left : ℕ) → number_of (drop left (eight_at at bytes)) < 2 ^ 64
-  word_fits h left =
-      let l = eight_at at bytes in
-      omega (arith, number_last l left, number_below l (bytes_first 8 (drop at bytes) (bytes_from at h)), ap (λ (k : ℕ). 256 ^ k) length_eight)
+-- ---- the word of the first eight bytes
+word_fits : (bytes : List ℕ) → word_bytes ≤ length bytes → Bytes bytes → number_of (take word_bytes bytes) < 2 ^ 64
+word_fits bytes fits h =
+    omega (arith, number_below (take 8 bytes) (bytes_first 8 bytes h), ap (λ (k : ℕ). 256 ^ k) (length-take-le 8 bytes fits))
 
 -- ---- words
 pub length_words : (k : ℕ) (bytes : List ℕ) → length (words_of k bytes) ≡ k
@@ -62,16 +36,29 @@ unfolding words_of
 length_words zero bytes = refl
 length_words (suc k) bytes = ap suc (length_words k (drop word_bytes bytes))
 
--- each word is the number of its own eight bytes
-pub word_at : (k : ℕ) (bytes : List ℕ) (i : ℕ) → i < k → get_or (words_of k bytes) i 0 ≡ number_of (take 8 (drop (8 * i) bytes))
+-- one word more is the number of the next eight bytes
+words_then : (k : ℕ) (bytes : List ℕ) → words_of (suc k) bytes ≡ words_of k bytes ++ number_of (take 8 (drop (8 * k) bytes)) ∷ []
 unfolding words_of
-word_at zero bytes i h = absurd (omega arith)
-word_at (suc k) bytes zero h = refl
-word_at (suc k) bytes (suc i) h =
-    let further : 8 + 8 * i ≡ 8 * suc i = omega arith in
-    word_at k (drop 8 bytes) i (omega arith)
-    ∙ ap (λ (l : List ℕ). number_of (take 8 l)) (drop-drop (8 * i) 8 bytes)
-    ∙ ap (λ (m : ℕ). number_of (take 8 (drop m bytes))) further
+words_then zero bytes = refl
+words_then (suc k) bytes =
+    let further : 8 + 8 * k ≡ 8 * suc k = omega arith in
+    ap (λ (l : List ℕ). number_of (take 8 bytes) ∷ l)
+    (words_then k (drop 8 bytes)
+    ∙ ap (λ (l : List ℕ). words_of k (drop 8 bytes) ++ number_of (take 8 l) ∷ []) (drop-drop (8 * k) 8 bytes ∙ ap (λ (m : ℕ). drop m bytes) further))
+
+pub words_more : (k : ℕ) (bytes : List ℕ) → words_of (k + 1) bytes ≡ words_of k bytes ++ number_of (take 8 (drop (8 * k) bytes)) ∷ []
+words_more k bytes = ap (λ (m : ℕ). words_of m bytes) (add-one k) ∙ words_then k bytes
+
+-- bytes behind the last word are not read
+pub words_front : (k : ℕ) (bytes : List ℕ) → words_of k (take (8 * k) bytes) ≡ words_of k bytes
+unfolding words_of
+words_front zero bytes = refl
+words_front (suc k) bytes =
+    let further : 8 + 8 * k ≡ 8 * suc k = omega arith in
+    ap (λ (m : ℕ). words_of (suc k) (take m bytes)) (sym further)
+    ∙ ap (λ (l : List ℕ). number_of l ∷ words_of k (drop 8 (take (8 + 8 * k) bytes))) (take-take 8 (8 + 8 * k) bytes (omega arith))
+    ∙ ap (λ (l : List ℕ). number_of (take 8 bytes) ∷ words_of k l) (drop-take 8 (8 * k) bytes)
+    ∙ ap (λ (l : List ℕ). number_of (take 8 bytes) ∷ l) (words_front k (drop 8 bytes))
 
 pub length_inputs : (inputs : List ℕ) → length (bytes_of_inputs inputs) ≡ word_bytes * length inputs
 unfolding bytes_of_inputs
@@ -86,7 +73,7 @@ inputs_bytes (w ∷ inputs) = bytes_both (low_first word_bytes w) (low_bytes wor
 pub words_fit : (k : ℕ) (bytes : List ℕ) → Bytes bytes → word_bytes * k ≤ length bytes → (row : ℕ) → get_or (words_of k bytes) row 0 < 2 ^ 64
 unfolding words_of
 words_fit zero bytes h fits row = omega arith
-words_fit (suc k) bytes h fits zero = word_fits bytes 0 (omega arith) h 0
+words_fit (suc k) bytes h fits zero = word_fits bytes (omega arith) h
 words_fit (suc k) bytes h fits (suc row) = words_fit k (drop word_bytes bytes) (bytes_from word_bytes h) (omega (arith, length-drop word_bytes bytes)) row
 
 pub words_of_inputs : (inputs behind : List ℕ) → ((i : ℕ) → get_or inputs i 0 < 2 ^ 64) → words_of (length inputs) (bytes_of_inputs inputs ++ behind) ≡ inputs

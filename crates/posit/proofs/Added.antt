@@ -5,45 +5,31 @@ use native.Mathlib.Decide.{ℕ_discrete}
 use Rattle.exact.specs.Fraction.{Fraction, ◌+ᶠ◌}
 use Rattle.exact.proofs.Order.{≈_refl, ≈_sym, ◌⨾◌}
 use Rattle.exact.proofs.Sum.{+ᶠ_cong, +ᶠ_idl, +ᶠ_idr, -ᶠ_is}
-use Rattle.posit.specs.declared.decoded.Decoded.{Decoded}
 use Rattle.posit.specs.declared.decoded.Decoded.TheVariants.{Finite}
 use Rattle.posit.specs.declared.inner.magnitude.Magnitude.{Magnitude}
-use Rattle.posit.specs.declared.inner.sum.Sum.{Sum}
-use Rattle.posit.specs.declared.inner.sum.Sum.TheVariants.{Nothing, Something}
 use Rattle.posit.specs.Format as Spec
 use Rattle.posit.specs.Format.{Format, nar, negated}
 use Rattle.posit.specs.Value.{value}
-use Rattle.posit.specs.Rounding.{Rounds, zero_gives_zero, posit_gives_itself}
-use Rattle.posit.specs.Magnitudes.{with_signᶠ, Unpacks, Words, Knows, IsSum, RoundsEach, AddsFinite}
+use Rattle.posit.specs.Rounding.{Rounds, posit_gives_itself}
+use Rattle.posit.specs.Decoding.{finite_value}
+use Rattle.posit.specs.SmallForm.{Unpacks}
+use Rattle.posit.specs.Magnitudes.{with_signᶠ, Knows, RoundsEach}
 use Rattle.posit.specs.Arithmetic.{has_no_number}
 use Rattle.call.specs.Operation.{plus, minus}
 use Rattle.posit.specs.Operation.{Operates}
 use Rattle.posit.proofs.Mirror.{negated_negated, negated_nar, value_negated}
 use Rattle.posit.proofs.OneAnswer.{rounds_respects}
 use Rattle.posit.proofs.SmallScale.{kept}
-use Rattle.posit.proofs.Operated.{no_number, a_number, nar_left, nar_right, both_numbers, zero_not_nar, zero_value, is_finite, is_small}
+use Rattle.posit.proofs.Operated.{no_number, a_number, nar_right, both_numbers, zero_not_nar, zero_value}
 use Rattle.posit.proofs.Summed.{sign_twice}
 
 -- ---- an exact sum, rounded
-module _ (z : Fraction) {r : Sum} (k : IsSum z r) where
-  pub nothing_rounds : (n es : ℕ) → r ≡ Nothing → Rounds n es z 0
-  nothing_rounds n es e = zero_gives_zero (subst (λ r. IsSum z r) e k) refl
-
-  known : {b : Bool} {m : Magnitude} → r ≡ Something b m → Knows (with_signᶠ b z) m
-  known e = subst (λ r. IsSum z r) e k
-
-  pub something_words : {b : Bool} {m : Magnitude} → r ≡ Something b m → Words m
-  something_words e = (known e).words
-
-  pub something_rounds : {n es : ℕ} {b : Bool} {m : Magnitude} {p : ℕ} → Format n es → r ≡ Something b m → RoundsEach n es b m p → Rounds n es z p
-  something_rounds {n} {es} {b} f e each = rounds_respects n es f.wide_enough (sign_twice b z) (each (with_signᶠ b z) (known e).within)
+pub some_rounds : (z : Fraction) (b : Bool) (x : Magnitude) {n es p : ℕ} → Format n es → Knows (with_signᶠ b z) x → RoundsEach n es b x p → Rounds n es z p
+some_rounds z b x {n} {es} f k each = rounds_respects n es f.wide_enough (sign_twice b z) (each (with_signᶠ b z) k)
 
 -- ---- the sum
 module _ (n es p q : ℕ) where
-  pub plus_nar_left : {r : ℕ} → p ≡ nar n → r ≡ nar n → Operates n es plus p q r
-  plus_nar_left e h = no_number (nar_left n plus p q e) h
-
-  pub plus_nar_right : {r : ℕ} → q ≡ nar n → r ≡ nar n → Operates n es plus p q r
+  plus_nar_right : {r : ℕ} → q ≡ nar n → r ≡ nar n → Operates n es plus p q r
   plus_nar_right e h = no_number (nar_right n plus p q e) h
 
   pub zero_plus : q < 2 ^ n → p ≡ 0 → Operates n es plus p q q
@@ -60,14 +46,13 @@ module _ (n es p q : ℕ) where
       a_number (both_numbers n plus p q f.not_nar (zero_not_nar n e) refl)
       (posit_gives_itself f (+ᶠ_cong (≈_refl (value n es p)) (zero_value n es e) ⨾ +ᶠ_idr (value n es p)))
 
+-- two numbers, their scales as the machine holds them
 pub numbers_plus :
-    {n es p q r : ℕ} {d e : Decoded} {a b : Bool} {s t : ℤ} {g h : ℕ} → Format n es → Unpacks n es p d → Unpacks n es q e
-    → d ≡ Finite a s g → e ≡ Finite b t h → AddsFinite n es a (to_z w32 (of_z w32 s)) g b (to_z w32 (of_z w32 t)) h r → Operates n es plus p q r
-numbers_plus {n} {es} {p} {q} f u v i j k =
-    let x = is_finite u i in
-    let y = is_finite v j in
-    a_number (both_numbers n plus p q x.finite.not_nar y.finite.not_nar refl)
-    (rounds_respects n es f.wide_enough (+ᶠ_cong x.means y.means) (rw (kept (is_small u i), kept (is_small v j)) at k))
+    {n es p q r : ℕ} {a b : Bool} {s t : ℤ} {g h : ℕ} → Format n es → Unpacks n es p (Finite a s g) → Unpacks n es q (Finite b t h)
+    → Rounds n es (finite_value a (to_z w32 (of_z w32 s)) g +ᶠ finite_value b (to_z w32 (of_z w32 t)) h) r → Operates n es plus p q r
+numbers_plus {n} {es} {p} {q} f u v k =
+    a_number (both_numbers n plus p q u.decodes.finite.not_nar v.decodes.finite.not_nar refl)
+    (rounds_respects n es f.wide_enough (+ᶠ_cong u.decodes.means v.decodes.means) (rw (kept u.small, kept v.small) at k))
 
 -- ---- the difference
 module _ (n q : ℕ) (some : 1 ≤ n) (fits : q < 2 ^ n) where

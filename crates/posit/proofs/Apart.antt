@@ -1,7 +1,6 @@
 -- The parts that a pattern is taken into mean its multiple: the growth of a tail is its quotient and remainder, which are scale and significand.
-use Rattle.std.proofs.Common.{◌≡◌, ℕ, zero, suc, ◌+◌, ◌-◌, ◌*◌, ◌/◌, ◌%◌, ◌^◌, ◌<◌, ◌≤◌, sym, refl, ap, ◌∙◌, subst, subst₂, lt_of_lt_of_le, mul-le-mul_right, mod-lt, mod-eq_of_lt, mul_assoc, div-lt_iff_lt-mul, le-div_iff_mul-le, arith, pow_pos, pow_mono, pow-add, shl_lt, w32, Fits}
+use Rattle.std.proofs.Common.{◌≡◌, ℕ, zero, suc, ◌+◌, ◌-◌, ◌*◌, ◌/◌, ◌%◌, ◌^◌, ◌<◌, ◌≤◌, sym, refl, ap, ◌∙◌, subst, subst₂, lt_of_lt_of_le, mul-le-mul_right, mod-lt, mod-eq_of_lt, mul_assoc, div-lt_iff_lt-mul, le-div_iff_mul-le, arith, pow_pos, pow_mono, pow-add, shl_lt}
 use native.Mathlib.Nat.{pow-succ', mul-lt-mul_of_pos_left, add-mul-mod_self_right}
-use lib.Pow.{pow-lt, shr_le}
 use Rattle.posit.specs.declared.inner.unpack.Parts.{Parts}
 use Rattle.posit.specs.Parts.{chosen_by, HighestBit, TailParts, PartsOf}
 use Rattle.posit.specs.Value.{multiple}
@@ -13,24 +12,6 @@ use Rattle.posit.proofs.Chosen.{first_of_two, second_of}
 -- ---- times 2^es, a tail and a regime still fit
 pub times_power : (j : ℕ) {es x : ℕ} → es ≤ 2 → x < 2 ^ j → x * 2 ^ es < 2 ^ (j + 2)
 times_power j {es} h u = lt_of_lt_of_le (shl_lt j es u) (pow_mono {i = j + es} {j = j + 2} (omega arith))
-
-padded_less : {es w tail : ℕ} → es ≤ 2 → w < 16 → tail < 2 ^ w → tail * 2 ^ es < 2 ^ 17
-padded_less {w = w} h k u = lt_of_lt_of_le (times_power w h u) (pow_mono {i = w + 2} {j = 17} (omega arith))
-
-pub tail_small : {es w tail : ℕ} → es ≤ 2 → w < 16 → tail < 2 ^ w → Fits w32 (tail * 2 ^ es)
-tail_small h k u = record { fits = omega (arith, padded_less h k u) }
-
-pub regime_small : {es regime : ℕ} → es ≤ 2 → regime < 64 → Fits w32 (regime * 2 ^ es)
-regime_small h u = record { fits = omega (arith, times_power 6 h u) }
-
-pub scale_small : {es x : ℕ} → es ≤ 2 → x < 64 → Fits w32 (2 * (x * 2 ^ es))
-scale_small h u = record { fits = omega (arith, times_power 6 h u) }
-
-pub sum_small : {es regime w tail : ℕ} → es ≤ 2 → regime < 64 → w < 16 → tail < 2 ^ w → Fits w32 (regime * 2 ^ es + tail * 2 ^ es / 2 ^ w)
-sum_small {es} {w = w} {tail = tail} h g k u = record { fits = omega (arith, times_power 6 h g, padded_less h k u, shr_le (tail * 2 ^ es) w) }
-
-pub significand_small : {w : ℕ} (x : ℕ) → w < 16 → Fits w32 (2 ^ w + x % 2 ^ w)
-significand_small {w} x k = record { fits = omega (arith, mod-lt x (pow_pos w), pow-lt k) }
 
 -- ---- a tail's quotient is below 2^es
 exponent_less : (es w : ℕ) {tail : ℕ} → tail < 2 ^ w → tail * 2 ^ es / 2 ^ w < 2 ^ es
@@ -119,13 +100,6 @@ first_bit b p {P} l u e = rw e (go (p / 2 ^ (b - 1)) refl)
 
 -- the mark, the run and the bit that closes it
 module _ {b p m : ℕ} (l : 2 ≤ b) (u : p < 2 ^ b) (f : FirstBit b p m) where
-  pub bit_small : m ≤ 1
-  bit_small = go f
-    where
-      go : FirstBit b p m → m ≤ 1
-      go (clear e k) = omega (arith, e)
-      go (set e k) = omega (arith, e)
-
   module _ {all run : ℕ} (a : all ≡ 2 ^ b) (c : run ≡ chosen_by m p (all - 1 - p)) where
     pub none_missing : 0 < p → run ≡ 0 → p + 1 ≡ 2 ^ b
     none_missing s z = go f

@@ -1,10 +1,9 @@
 -- The numbers that locating works with fit their words: the highest bit stands between the bounds of the fraction, minPos's scale is small, and a
 -- tail that is cut to few bits is short.
-use Rattle.std.proofs.Common.{◌≡◌, ℕ, suc, ◌+◌, ◌-◌, ◌*◌, ◌/◌, ◌%◌, ◌^◌, ◌<◌, ◌≤◌, lt_of_lt_of_le, lt_of_le_of_lt, mod-lt, mul_assoc, mul-le-mul, mul-lt-mul_of_pos_right, arith, pow_pos, pow_mono, pow-add, shr_lt}
+use Rattle.std.proofs.Common.{◌≡◌, ℕ, suc, ◌+◌, ◌-◌, ◌*◌, ◌/◌, ◌%◌, ◌^◌, ◌<◌, ◌≤◌, lt_of_lt_of_le, lt_of_le_of_lt, mod-lt, mul-lt-mul_of_pos_right, arith, pow_pos, pow_mono, pow-add, shr_lt}
 use native.Mathlib.Nat.{pow-succ'}
 use lib.Arith.{digits_lt}
 use Rattle.exact.proofs.Powers.{pow_lt_cancel}
-use Rattle.posit.specs.Format.{Format}
 use Rattle.posit.specs.Parts.{HighestBit}
 
 -- ---- the highest bit
@@ -13,16 +12,6 @@ high_at_least {g} {h} k l t = omega (arith, pow_lt_cancel k (suc h) (lt_of_le_of
 
 pub high_below : {g h : ℕ} (k : ℕ) → g < 2 ^ k → HighestBit g h → h < k
 high_below {g} {h} k l t = pow_lt_cancel h k (lt_of_le_of_lt t.at_least l)
-
--- ---- minPos's scale
-pub unit_small : {es : ℕ} → es ≤ 2 → 2 ^ es ≤ 4
-unit_small h = pow_mono h
-
-pub lowest_small : {n es E : ℕ} → Format n es → E ≡ 2 ^ es → (n - 1) * E ≤ 60
-lowest_small {n} {es} f e = rw e (mul-le-mul {n₁ = n - 1} {m₁ = 2 ^ es} {n₂ = 15} {m₂ = 4} (omega (arith, f.not_too_wide)) (unit_small f.exponent_fits))
-
-pub twice_small : {n es E : ℕ} → Format n es → E ≡ 2 ^ es → 2 * (n - 1) * E ≤ 120
-twice_small {n} {es} {E} f e = omega (arith, lowest_small f e, mul_assoc 2 (n - 1) E)
 
 -- ---- the bits below the highest, and the exponent before them
 pub exponent_fits : (T es h : ℕ) {E H : ℕ} → h + es < 64 → E ≡ 2 ^ es → H ≡ 2 ^ h → T % E * H < 2 ^ 64
@@ -41,8 +30,5 @@ pub tail_small : (w width x : ℕ) → w ≤ width → w ≤ 16 → x < 2 ^ widt
 tail_small w width x h k l = let s : w + (width - w) ≡ width = omega arith in lt_of_lt_of_le (shr_lt w (width - w) (rw s l)) (pow_mono k)
 
 -- ---- powers of few bits
-pub power_small : (w : ℕ) {P : ℕ} → w ≤ 16 → P ≡ 2 ^ w → P ≤ 2 ^ 16
-power_small w h e = rw e (pow_mono h)
-
 pub double_within : (w n : ℕ) {P Q : ℕ} → w < n → P ≡ 2 ^ n → Q ≡ 2 ^ w → 2 * Q ≤ P
 double_within w n h e i = rw (e, i) (omega (arith, pow_mono {i = suc w} {j = n} h))

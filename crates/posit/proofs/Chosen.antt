@@ -6,15 +6,6 @@ use Rattle.posit.specs.Parts.{chosen_by}
 abbrev pub ones_mark : ℕ → ℕ → ℕ
 ones_mark n regime = (regime + 33 - n) / 32
 
-pub mark_of_zeros : (n regime : ℕ) → n ≤ 16 → regime < n - 1 → ones_mark n regime ≡ 0
-mark_of_zeros n regime h k = omega (arith, h, k)
-
-pub mark_of_ones : (n regime : ℕ) → n ≤ 16 → regime < 2 * (n - 1) → n - 1 ≤ regime → ones_mark n regime ≡ 1
-mark_of_ones n regime h k l = omega (arith, h, k, l)
-
-pub mark_small : (n regime : ℕ) → n ≤ 16 → regime < 2 * (n - 1) → ones_mark n regime ≤ 1
-mark_small n regime h k = omega (arith, h, k)
-
 -- a regime is below the middle or from it on
 by_middle : (m n regime : ℕ) → m ≡ ones_mark n regime → n ≤ 16 → regime < 2 * (n - 1) → (regime < n - 1) ⊎ (n - 1 ≤ regime)
 by_middle zero n regime e h k = inl (omega (arith, e, h, k))

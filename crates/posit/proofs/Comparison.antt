@@ -6,8 +6,8 @@ use lib.Signed.{clash_ℤ}
 use Rattle.exact.specs.Fraction.{◌<ᶠ◌, ◌≈◌}
 use Rattle.exact.proofs.WholeOrder.{≤ℤ_of_<ℤ, ≤ℤ_of_≡}
 use Rattle.exact.proofs.Order.{≈_refl}
-use Rattle.posit.specs.declared.compare.Order.{Order}
-use Rattle.posit.specs.declared.compare.Order.TheVariants.{Less, Equal, Greater}
+use Rattle.std.specs.declared.cmp.Ordering.{Ordering}
+use Rattle.std.specs.declared.cmp.Ordering.TheVariants.{Less, Equal, Greater}
 use Rattle.posit.specs.Format.{Finite, nar}
 use Rattle.posit.specs.Value.{value, signed}
 use Rattle.posit.specs.Comparing.{Compares}
@@ -41,7 +41,7 @@ module _ (n : ℕ) (wide : 3 ≤ n) where
 not_less : (n : ℕ) {p q : ℕ} {A : Type 0} → p ≡ q → signed n p <ℤ signed n q → A
 not_less n e h = clash_ℤ h (≤ℤ_of_≡ (ap (signed n) (sym e)))
 
-pub one_order : (n p q : ℕ) (o o' : Order) → Compares n p q o → Compares n p q o' → o ≡ o'
+pub one_order : (n p q : ℕ) (o o' : Ordering) → Compares n p q o → Compares n p q o' → o ≡ o'
 one_order n p q Less Less h k = refl
 one_order n p q Less Equal h k = not_less n k h
 one_order n p q Less Greater h k = clash_ℤ h (≤ℤ_of_<ℤ k)

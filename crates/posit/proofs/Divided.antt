@@ -1,21 +1,22 @@
 -- The quotient of two posits, by what they are: NaR with NaR or over 0, 0 over a number, and of two other numbers the rounded quotient of their values.
-use Rattle.std.proofs.Common.{◌≡◌, ℕ, Bool, not, ◌≢◌, ℤ, pos, refl, w32, to_z, of_z, ne_eqb}
+use Rattle.std.proofs.Common.{◌≡◌, ℕ, Bool, false, not, ◌≢◌, ℤ, pos, refl, w32, to_z, of_z, ne_eqb}
 use mathlib.Core.Bool.{beq}
 use Rattle.exact.specs.Fraction.{Fraction, ◌≈◌, whole, ◌/ᶠ◌}
 use Rattle.exact.proofs.Order.{≈_refl, ≈_trans, ≈_sym, ≈_decided}
 use Rattle.exact.proofs.Product.{zero_*ᶠ}
 use Rattle.exact.proofs.Quotient.{/ᶠ_cong, /ᶠ_zero, /ᶠ_unique}
-use Rattle.posit.specs.declared.decoded.Decoded.{Decoded}
 use Rattle.posit.specs.declared.decoded.Decoded.TheVariants.{Finite}
 use Rattle.posit.specs.declared.inner.magnitude.Magnitude.{Magnitude}
 use Rattle.posit.specs.Format.{Format, nar}
 use Rattle.posit.specs.Value.{value}
 use Rattle.posit.specs.Rounding.{zero_gives_zero}
-use Rattle.posit.specs.Magnitudes.{Unpacks, QuotientOf, RoundsEach}
+use Rattle.posit.specs.Decoding.{finite_value}
+use Rattle.posit.specs.SmallForm.{Unpacks}
+use Rattle.posit.specs.Magnitudes.{Knows, RoundsEach}
 use Rattle.call.specs.Operation.{over}
 use Rattle.posit.specs.Operation.{Operates}
 use Rattle.posit.proofs.SmallScale.{kept}
-use Rattle.posit.proofs.Operated.{no_number, a_number, nar_left, nar_right, zero_divisor, both_numbers, zero_not_nar, zero_value, is_finite, is_small}
+use Rattle.posit.proofs.Operated.{a_number, both_numbers, zero_not_nar, zero_value}
 use Rattle.posit.proofs.SignedResult.{quotient_signs, rounds_signed}
 
 zero_/ᶠ : (y : Fraction) → (whole (pos 0) /ᶠ y) ≈ whole (pos 0)
@@ -26,15 +27,6 @@ zero_/ᶠ y = by (≈_decided y (whole (pos 0)))
     by (no h) = ≈_sym (/ᶠ_unique h (zero_*ᶠ y))
 
 module _ (n es p q : ℕ) where
-  pub over_nar_left : {r : ℕ} → p ≡ nar n → r ≡ nar n → Operates n es over p q r
-  over_nar_left e i = no_number (nar_left n over p q e) i
-
-  pub over_nar_right : {r : ℕ} → q ≡ nar n → r ≡ nar n → Operates n es over p q r
-  over_nar_right e i = no_number (nar_right n over p q e) i
-
-  pub over_zero : {r : ℕ} → q ≡ 0 → r ≡ nar n → Operates n es over p q r
-  over_zero e i = no_number (zero_divisor n p e) i
-
   pub zero_over : p ≡ 0 → q ≢ nar n → q ≢ 0 → Operates n es over p q 0
   zero_over e h k =
       a_number (both_numbers n over p q (zero_not_nar n e) h (ne_eqb q 0 k))
@@ -42,9 +34,9 @@ module _ (n es p q : ℕ) where
 
 -- two numbers, their scales as the machine holds them
 pub numbers_over :
-    {n es p q : ℕ} → Format n es → {d e : Decoded} → Unpacks n es p d → Unpacks n es q e → {a b : Bool} {s t : ℤ} {g h : ℕ} → d ≡ Finite a s g
-    → e ≡ Finite b t h → {x : Magnitude} {r : ℕ} → QuotientOf (to_z w32 (of_z w32 s)) g (to_z w32 (of_z w32 t)) h x
+    {n es p q r : ℕ} {a b : Bool} {s t : ℤ} {g h : ℕ} (x : Magnitude) → Format n es → Unpacks n es p (Finite a s g) → Unpacks n es q (Finite b t h)
+    → Knows (finite_value false (to_z w32 (of_z w32 s)) g /ᶠ finite_value false (to_z w32 (of_z w32 t)) h) x
     → RoundsEach n es (not (beq a b)) x r → Operates n es over p q r
-numbers_over {n} {p = p} {q = q} f u v i j k each =
-    a_number (both_numbers n over p q (is_finite u i).finite.not_nar (is_finite v j).finite.not_nar (ne_eqb q 0 (is_finite v j).not_zero))
-    (rounds_signed quotient_signs f (is_finite u i) (is_finite v j) (rw (kept (is_small u i), kept (is_small v j)) at k) each)
+numbers_over {n} {p = p} {q = q} x f u v k each =
+    a_number (both_numbers n over p q u.decodes.finite.not_nar v.decodes.finite.not_nar (ne_eqb q 0 v.decodes.not_zero))
+    (rounds_signed quotient_signs x f u.decodes v.decodes (rw (kept u.small, kept v.small) at k) each)

@@ -10,7 +10,7 @@ use mir.ValLaws.{to_z-of_z}
 use borrow.Author.Tests.{lt-leb}
 use Rattle.exact.proofs.Linear.{given, spread, parts}
 use Rattle.posit.specs.Parts.{HighestBit}
-use Rattle.posit.specs.Magnitudes.{SmallForm}
+use Rattle.posit.specs.SmallForm.{SmallForm}
 use Rattle.posit.proofs.SetBits.{trailing, odd_quotient, highest_below}
 use Rattle.posit.proofs.OneForm.{odd_once}
 use Rattle.posit.proofs.SmallScale.{lifted, lifted_is, lifted_most, kept}

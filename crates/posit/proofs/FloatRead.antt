@@ -1,23 +1,20 @@
 -- What the bits of a 64-bit float are read as: sign, exponent and digits are quotients and remainders, and the digits with their exponent, counted in
 -- units of 2^-1074, are the float's value; a magnitude knows them exactly, and the posit that they are rounded to is the float's.
-use Rattle.std.proofs.Common.{◌≡◌, ℕ, zero, suc, ◌+◌, ◌-◌, ◌*◌, ◌/◌, ◌%◌, ◌^◌, ◌<◌, ◌≤◌, Bool, true, false, cond, eqb, leb, ℤ, pos, negsuc, sym, refl, ap, ◌∙◌, subst, lt_irrefl, mul-one, arith, pow-add, eq-eqb, ne_eqb}
+use Rattle.std.proofs.Common.{◌≡◌, ℕ, zero, suc, ◌+◌, ◌-◌, ◌*◌, ◌/◌, ◌%◌, ◌^◌, ◌<◌, Bool, true, false, cond, eqb, leb, ℤ, pos, negsuc, sym, refl, ap, ◌∙◌, subst, lt_irrefl, mul-one, arith, eq-eqb, ne_eqb}
 use lib.Ieee.{Float, nan, inf, fin, binary64, up, down, odd, of_fields, of_bits}
 use lib.Ieee.Exact.{HasValue, odd_sign}
 use Rattle.exact.specs.Fraction.{Fraction, ◌≈◌, whole, over_power}
-use Rattle.exact.proofs.Order.{≈_sym, ≈_trans, ≈_refl}
+use Rattle.exact.proofs.Order.{≈_sym, ≈_trans}
 use Rattle.exact.proofs.Sum.{negᶠ_cong}
-use Rattle.exact.proofs.OverPower.{over_power_pos_≈}
 use Rattle.exact.proofs.Scaled.{scaled_negᶠ, scaled_zero}
-use Rattle.posit.specs.Format.{Format, nar}
-use Rattle.posit.specs.Rounding.{Rounds, zero_gives_zero}
+use Rattle.posit.specs.Format.{Format}
+use Rattle.posit.specs.Rounding.{Rounds}
 use Rattle.posit.specs.Decoding.{finite_value}
-use Rattle.posit.specs.Locating.{given}
-use Rattle.posit.specs.Magnitudes.{with_signᶠ, Knows}
+use Rattle.posit.specs.Magnitudes.{with_signᶠ}
 use Rattle.posit.specs.declared.inner.float_bits.FloatParts.{FloatParts}
 use Rattle.posit.specs.declared.inner.float_bits.FloatParts.TheVariants.{Infinite, Nothing, Number}
 use Rattle.posit.specs.Floats.{IsExactly, FromFloat, of_digits, NoNumber, NumberParts, PartsOfFloat}
 use Rattle.posit.proofs.OneAnswer.{rounds_respects}
-use Rattle.posit.proofs.Exactly.{known_exactly}
 
 -- ---- three fields
 abbrev pub sign : ℕ → Bool
@@ -107,38 +104,12 @@ module _ (b : ℕ) where
   normal_parts some few = record { some = omega arith; few = omega arith; shift_fits = omega arith; exactly = normal_exactly some few }
 
 -- ---- digits as `locate` asks for them: few are moved up
-padded : (d k l j : ℕ) → over_power (pos (d * 2 ^ k)) l ≈ given (d * 2 ^ j) k (l + j)
-padded d k l j = (over_power_pos_≈ l (l + j)).1 (rw (pow-add 2 l j) (omega arith))
-
-module _ (d k : ℕ) (fits : k < 2 ^ 11) where
-  pub few_digits : 0 < d → d < 2 ^ 32 → Knows (of_digits d k) (record { g = d * 2 ^ 16; s = k; a = 1090; lost = false })
-  few_digits some few =
-      record {
-        words = record { enough = omega arith; not_too_many = omega arith; scale_up = omega arith; scale_down = omega arith };
-        within = known_exactly (d * 2 ^ 16) k 1090 (padded d k 1074 16);
-      }
-
-  pub many_digits : 2 ^ 32 ≤ d → d < 2 ^ 53 → Knows (of_digits d k) (record { g = d; s = k; a = 1074; lost = false })
-  many_digits many less =
-      record {
-        words = record { enough = omega arith; not_too_many = omega arith; scale_up = omega arith; scale_down = omega arith };
-        within = known_exactly d k 1074 (≈_refl (of_digits d k));
-      }
-
 -- ---- the posit that a float is rounded to, by its parts
 module _ {n es : ℕ} (f : Format n es) where
-  pub no_number_rounded : (x : Float) {p : ℕ} → NoNumber x → p ≡ nar n → FromFloat n es x p
-  no_number_rounded nan h e = e
-  no_number_rounded (inf s) h e = e
-  no_number_rounded (fin s m e) h r = absurd h
-
   pub number_rounded : (x : Float) {z : Fraction} {p : ℕ} → IsExactly x z → Rounds n es z p → FromFloat n es x p
   number_rounded nan h r = absurd h
   number_rounded (inf s) h r = absurd h
   number_rounded (fin s m e) h r = rounds_respects n es f.wide_enough (≈_sym h) r
-
-  pub zero_rounded : (x : Float) → IsExactly x (whole (pos 0)) → FromFloat n es x 0
-  zero_rounded x h = number_rounded x h (zero_gives_zero (≈_refl (whole (pos 0))) refl)
 
 -- ---- the parts by their case
 module _ (x : Float) {r : FloatParts} (h : PartsOfFloat x r) where

@@ -1,6 +1,6 @@
 -- From a posit to its float and back is the posit, in every format: the float is exactly the posit's value, which is rounded to the posit itself. And a
 -- posit has one float, since both are written with an odd number and mean one value.
-use Rattle.std.proofs.Common.{◌≡◌, ℕ, zero, suc, ◌*◌, ◌%◌, ◌^◌, Bool, true, false, ◌&&◌, T, eqb, ltb, leb, ◌≢◌, ℤ, pos, sym, refl, ap, ◌∙◌, subst, lt_irrefl, arith, eqb→eq}
+use Rattle.std.proofs.Common.{◌≡◌, ℕ, zero, suc, ◌*◌, ◌%◌, ◌^◌, Bool, true, false, ◌&&◌, T, eqb, ltb, leb, ◌≢◌, ℤ, pos, sym, refl, ap, ◌∙◌, eqb→eq}
 use native.Mathlib.Decide.{ℕ_discrete}
 use lib.Ieee.{Float, nan, inf, fin, binary64, fits, up, down}
 use Rattle.exact.specs.Fraction.{◌≈◌, whole}
@@ -9,15 +9,16 @@ use Rattle.exact.proofs.Scaled.{scaled_zero}
 use Rattle.posit.specs.declared.decoded.Decoded.TheVariants.{Finite}
 use Rattle.posit.specs.declared.float.Floated.{Floated}
 use Rattle.posit.specs.declared.float.Floated.TheVariants.{Value, Nar}
-use Rattle.posit.specs.declared.answer.Answer.{Answer}
-use Rattle.posit.specs.declared.to_float.Floating.{Floating}
-use Rattle.posit.specs.Format.{Format, is_format}
+use Rattle.std.specs.Prelude.{Result, Ok, Err}
+use Rattle.call.specs.declared.refusal.Refusal.{Refusal}
+use Rattle.call.proofs.Answered.{accepts, refuses}
+use Rattle.posit.specs.Format.{Format}
 use Rattle.call.specs.Verdict.{Verdict}
 use Rattle.posit.specs.Rounding.{zero_gives_zero, posit_gives_itself}
 use Rattle.posit.specs.Decoding.{OddForm, finite_value}
 use Rattle.posit.specs.Floats.{FromFloat, FromFloatOf, ExactFloat, ToFloat, FloatingOf}
 use Rattle.posit.proofs.OneAnswer.{one_answer, same_answer, rounds_respects, nearest_value}
-use Rattle.posit.proofs.Verdicts.{format_of, format_done, one_outside}
+use Rattle.posit.proofs.Verdicts.{format_accepted, format_of_one, format_done}
 use Rattle.posit.proofs.OneForm.{one_form}
 
 -- the format of 64 bits holds the float, where there is one
@@ -74,13 +75,8 @@ module _ {n es : ℕ} (f : Format n es) where
   same_float p Nar (Value y) h k t u = absurd (u.finite.not_nar t)
   same_float p Nar Nar h k t u = refl
 
--- ---- the two calls, one after the other
-pub calls_and_back : (n es p : ℕ) {r : Floating} {x : Float} {a : Answer} → FloatingOf n es p r → r.number ≡ 0 → r.floated ≡ Value x
-    → FromFloatOf n es x a → a.posit ≡ p
-calls_and_back n es p {r} {x} {a} t accepted is b = by (is_format n es) refl
-  where
-    by : (c : Bool) → is_format n es ≡ c → a.posit ≡ p
-    by true e =
-        float_and_back (format_of e) x (subst (ToFloat n es p) is (t.right (sym t.number_is ∙ accepted)))
-        (b.right (ap (λ (v : Verdict). v.number) (format_done n es e)))
-    by false e = absurd (lt_irrefl 0 (omega (arith, t.number_is, ap (λ (v : Verdict). v.number) (one_outside n es p e))))
+-- ---- the two calls, one after the other: where the first gives a float, the second takes it and gives the posit
+pub calls_and_back : (n es p : ℕ) {x : Float} (r : Result ℕ Refusal) → FloatingOf n es p (Ok (Value x)) → FromFloatOf n es x r → r ≡ Ok p
+calls_and_back n es p {x} (Ok q) t b = ap Ok (float_and_back (format_accepted n es (accepts b.0)) x t.1 b.1)
+calls_and_back n es p (Err e) t b =
+    absurd (refuses e b (ap (λ (v : Verdict). v.number) (format_done n es (format_of_one n es p (accepts t.0)))))

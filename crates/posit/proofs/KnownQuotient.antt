@@ -1,6 +1,6 @@
 -- The quotient of g · 2^e / 2^k by h · 2^d / 2^k lies where g · 2^j lies among the multiples of h: times h, a word's magnitude q · 2^e / 2^(d + j)
 -- is q · h · 2^e / 2^(d + j), so the quotient of g · 2^j by h with its remainder says all that is asked.
-use Rattle.std.proofs.Common.{◌≡◌, ℕ, ◌+◌, ◌*◌, ◌/◌, ◌%◌, ◌^◌, ◌<◌, ◌≤◌, not, eqb, ℤ, pos, mul-le-mul_right, mod-lt, mul-lt-mul_of_pos_right, mul-pos, div-add-mod', le-div_iff_mul-le, div-le_self, arith, pow_pos, pow-add, w64, Fits, eqb-true}
+use Rattle.std.proofs.Common.{◌≡◌, ℕ, ◌+◌, ◌*◌, ◌/◌, ◌%◌, ◌^◌, ◌<◌, ◌≤◌, not, eqb, pos, mul-le-mul_right, mod-lt, mul-lt-mul_of_pos_right, mul-pos, div-add-mod', arith, pow_pos, pow-add, eqb-true}
 use borrow.Author.Tests.{not-true, not-false, eqb-false}
 use Rattle.exact.specs.Whole.{above_zero}
 use Rattle.exact.specs.Fraction.{Fraction, ◌≤ᶠ◌, ◌<ᶠ◌, ◌≈◌, whole, over_power, ◌*ᶠ◌, ◌/ᶠ◌}
@@ -9,8 +9,9 @@ use Rattle.exact.proofs.Sign.{>0}
 use Rattle.exact.proofs.Quotient.{/ᶠ_≤ᶠ, ≤ᶠ_/ᶠ, /ᶠ_<ᶠ, <ᶠ_/ᶠ, /ᶠ_cong}
 use Rattle.exact.proofs.OverPower.{over_power_*ᶠ, over_power_pos_≤ᶠ, over_power_pos_<ᶠ}
 use Rattle.posit.specs.Locating.{given}
-use Rattle.posit.specs.Magnitudes.{SmallForm, Within, QuotientOf}
-use Rattle.posit.proofs.SmallScale.{lifted, lifted_most}
+use Rattle.posit.specs.declared.inner.finite.Finite.{Finite}
+use Rattle.posit.specs.Magnitudes.{Within, meant_size}
+use Rattle.posit.proofs.SmallScale.{lifted}
 use Rattle.posit.proofs.Exactly.{within_respects, in_units}
 
 -- ---- the two cross products, with the powers of two apart
@@ -85,7 +86,7 @@ module _ (g h e d j k : ℕ) where
     unfolding rest
     rest_less = mod-lt (g * 2 ^ j) some
 
-    within_parts : Within (x /ᶠ y) (record { g = quotient; s = e; a = d + j; lost = not (eqb rest 0) })
+    within_parts : Within (x /ᶠ y) quotient e (d + j) (not (eqb rest 0))
     within_parts =
         record {
           at_least = at_most_quotient some quotient (omega (arith, split));
@@ -100,30 +101,14 @@ module _ (g h e d j k : ℕ) where
         less : (rest ≡ 0 → ⊥) → quotient * h < g * 2 ^ j
         less n = omega (arith, split)
 
-    pub quotient_within : Within (x /ᶠ y) (record { g = g * 2 ^ j / h; s = e; a = d + j; lost = not (eqb (g * 2 ^ j % h) 0) })
+    pub quotient_within : Within (x /ᶠ y) (g * 2 ^ j / h) e (d + j) (not (eqb (g * 2 ^ j % h) 0))
     unfolding quotient rest
     quotient_within = within_parts
 
--- ---- sizes
-module _ {s t : ℤ} {g h : ℕ} (x : SmallForm s g) (y : SmallForm t h) where
-  pub scale_fits : Fits w64 (lifted t + 47)
-  scale_fits = record { fits = omega (arith, lifted_most y) }
-
-  enough : 2 ^ 16 ≤ g * 2 ^ 47 / h
-  enough = (le-div_iff_mul-le {k = h} {x = 2 ^ 16} {y = g * 2 ^ 47} y.some).1 (omega (arith, x.some, y.few))
-
-  not_too_many : g * 2 ^ 47 / h < 2 ^ 62
-  not_too_many = omega (arith, x.few, div-le_self (g * 2 ^ 47) h)
-
-  pub quotient_known : QuotientOf s g t h (record { g = g * 2 ^ 47 / h; s = lifted s; a = lifted t + 47; lost = not (eqb (g * 2 ^ 47 % h) 0) })
+-- ---- the quotient of two numbers' sizes
+module _ (x y : Finite) where
+  pub quotient_known :
+      Within (meant_size x /ᶠ meant_size y) (x.fraction * 2 ^ 47 / y.fraction) (lifted x.scale) (lifted y.scale + 47) (not (eqb (x.fraction * 2 ^ 47 % y.fraction) 0))
   quotient_known =
-      record {
-        words =
-            record {
-              enough = enough;
-              not_too_many = not_too_many;
-              scale_up = omega (arith, lifted_most x);
-              scale_down = omega (arith, lifted_most y);
-            };
-        within = within_respects (≈_sym (/ᶠ_cong (in_units x) (in_units y))) (quotient_within g h (lifted s) (lifted t) 47 56 y.some);
-      }
+      within_respects (≈_sym (/ᶠ_cong (in_units x.small) (in_units y.small)))
+      (quotient_within x.fraction y.fraction (lifted x.scale) (lifted y.scale) 47 56 y.small.some)

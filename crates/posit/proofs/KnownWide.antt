@@ -1,25 +1,19 @@
 -- A magnitude that is known to a word: of z = N / 2^u the number N · 2^j is cut to g · 2^s, and whether anything was cut off is marked.
-use Rattle.std.proofs.Common.{◌≡◌, ℕ, ◌+◌, ◌-◌, ◌*◌, ◌/◌, ◌%◌, ◌^◌, ◌<◌, ◌≤◌, Bool, true, false, not, eqb, pos, sym, refl, ap, ◌∙◌, mul-le-mul_right, mod-lt, div-lt_iff_lt-mul, pos_of_ne-zero, mul-lt-mul_of_pos_right, div-add-mod', arith, pow_pos, pow-add, w64, Fits, eqb-true}
+use Rattle.std.proofs.Common.{◌≡◌, ℕ, ◌+◌, ◌-◌, ◌*◌, ◌/◌, ◌%◌, ◌^◌, ◌<◌, ◌≤◌, Bool, true, false, not, eqb, pos, sym, ap, ◌∙◌, mul-le-mul_right, mod-lt, div-lt_iff_lt-mul, pos_of_ne-zero, mul-lt-mul_of_pos_right, div-add-mod', arith, pow_pos, pow-add, w64, Fits, eqb-true}
 use borrow.Author.Tests.{eqb-false, not-true, not-false}
-use Rattle.exact.specs.Fraction.{Fraction, ◌≈◌, over_power}
+use Rattle.exact.specs.Fraction.{over_power}
 use Rattle.exact.proofs.OverPower.{over_power_pos_≤ᶠ, over_power_pos_<ᶠ, over_power_pos_≈}
-use Rattle.posit.specs.declared.inner.magnitude.Magnitude.{Magnitude}
 use Rattle.posit.specs.Parts.{HighestBit}
-use Rattle.posit.specs.Magnitudes.{Within, Knows}
+use Rattle.posit.specs.Magnitudes.{Within}
 use Rattle.posit.proofs.SetBits.{highest_below}
-use Rattle.posit.proofs.Exactly.{never, within_respects}
 use Rattle.posit.proofs.TwoWords.{high_small}
-
--- ---- a magnitude knows each fraction of one size
-pub knows_respects : {y z : Fraction} {x : Magnitude} → y ≈ z → Knows y x → Knows z x
-knows_respects e k = record { words = k.words; within = within_respects e k.within }
 
 -- ---- a number cut
 module _ (N u j g s t : ℕ) (parts : N * 2 ^ j ≡ g * 2 ^ s + t) (rest : t < 2 ^ s) where
   scaled_up : N * 2 ^ (u + j) ≡ (g * 2 ^ s + t) * 2 ^ u
   scaled_up = rw (pow-add 2 u j) (omega (arith, ap (λ (x : ℕ). x * 2 ^ u) parts))
 
-  pub cut_within : (lost : Bool) → (lost ≡ false → t ≡ 0) → (lost ≡ true → 0 < t) → Within (over_power (pos N) u) (record { g = g; s = s; a = u + j; lost = lost })
+  pub cut_within : (lost : Bool) → (lost ≡ false → t ≡ 0) → (lost ≡ true → 0 < t) → Within (over_power (pos N) u) g s (u + j) lost
   cut_within lost none some =
       record {
         at_least = (over_power_pos_≤ᶠ (u + j) u).1 (rw scaled_up (mul-le-mul_right (2 ^ u) (omega arith)));
@@ -34,23 +28,7 @@ nothing_lost t e = eqb-true t 0 (not-false (eqb t 0) e)
 pub something_lost : (t : ℕ) → not (eqb t 0) ≡ true → 0 < t
 something_lost t e = pos_of_ne-zero (eqb-false t 0 (not-true (eqb t 0) e))
 
--- ---- a number of two words over 2^56, whose high word is 0: a narrow one moved up, any other cut by its last two bits
-module _ (h l : ℕ) (no_high : h ≡ 0) where
-  pub narrow_low : 0 < h * 2 ^ 64 + l → l < 2 ^ 46 → Knows (over_power (pos (h * 2 ^ 64 + l)) 56) (record { g = l * 2 ^ 16; s = 0; a = 72; lost = false })
-  narrow_low some few =
-      record {
-        words = record { enough = omega arith; not_too_many = omega arith; scale_up = omega arith; scale_down = omega arith };
-        within = cut_within (h * 2 ^ 64 + l) 56 16 (l * 2 ^ 16) 0 0 (omega arith) (omega arith) false (λ e. refl) never;
-      }
-
-  pub narrow_word : 2 ^ 46 ≤ l → l < 2 ^ 64 → Knows (over_power (pos (h * 2 ^ 64 + l)) 56) (record { g = l / 4; s = 2; a = 56; lost = not (eqb (l % 4) 0) })
-  narrow_word many fits =
-      record {
-        words = record { enough = omega arith; not_too_many = omega arith; scale_up = omega arith; scale_down = omega arith };
-        within = cut_within (h * 2 ^ 64 + l) 56 0 (l / 4) 2 (l % 4) (omega arith) (omega arith) (not (eqb (l % 4) 0)) (nothing_lost (l % 4)) (something_lost (l % 4));
-      }
-
--- ---- and one with a high word, whose highest bit is k: cut to 62 bits
+-- ---- a number of two words over 2^56 with a high word, whose highest bit is k: cut to 62 bits
 pub highest_small : (h l k : ℕ) → HighestBit h k → h * 2 ^ 64 + l < 2 ^ 120 → k < 56
 highest_small h l k highest less = highest_below 56 highest (high_small h l less)
 
@@ -64,22 +42,17 @@ module _ (h l k : ℕ) (highest : HighestBit h k) (less : h * 2 ^ 64 + l < 2 ^ 1
   high_part : 2 ^ k * 2 ^ (61 - k) ≡ 2 ^ 61
   high_part = let e : k + (61 - k) ≡ 61 = omega (arith, highest_small h l k highest less) in sym (pow-add 2 k (61 - k)) ∙ ap (λ (x : ℕ). 2 ^ x) e
 
-  top_less : h * 2 ^ (61 - k) + l / 2 ^ (k + 3) < 2 ^ 62
+  pub top_less : h * 2 ^ (61 - k) + l / 2 ^ (k + 3) < 2 ^ 62
   top_less = omega (arith, low_part, high_part, mul-le-mul_right (2 ^ (61 - k)) highest.less)
 
   pub top_fits : Fits w64 (h * 2 ^ (61 - k) + l / 2 ^ (k + 3))
   top_fits = record { fits = omega (arith, top_less) }
 
-  top_enough : 2 ^ 61 ≤ h * 2 ^ (61 - k) + l / 2 ^ (k + 3)
+  pub top_enough : 2 ^ 61 ≤ h * 2 ^ (61 - k) + l / 2 ^ (k + 3)
   top_enough = omega (arith, high_part, mul-le-mul_right (2 ^ (61 - k)) highest.at_least)
 
-  pub narrow_two : Knows (over_power (pos (h * 2 ^ 64 + l)) 56)
-      (record { g = h * 2 ^ (61 - k) + l / 2 ^ (k + 3); s = k + 3; a = 56; lost = not (eqb (l % 2 ^ (k + 3)) 0) })
+  pub narrow_two : Within (over_power (pos (h * 2 ^ 64 + l)) 56) (h * 2 ^ (61 - k) + l / 2 ^ (k + 3)) (k + 3) 56 (not (eqb (l % 2 ^ (k + 3)) 0))
   narrow_two =
-      record {
-        words = record { enough = omega (arith, top_enough); not_too_many = top_less; scale_up = omega (arith, highest_small h l k highest less); scale_down = omega arith };
-        within =
-            cut_within (h * 2 ^ 64 + l) 56 0 (h * 2 ^ (61 - k) + l / 2 ^ (k + 3)) (k + 3) (l % 2 ^ (k + 3))
-            (omega (arith, ap (λ (x : ℕ). h * x) word_split, div-add-mod' l (2 ^ (k + 3)))) (mod-lt l (pow_pos (k + 3)))
-            (not (eqb (l % 2 ^ (k + 3)) 0)) (nothing_lost (l % 2 ^ (k + 3))) (something_lost (l % 2 ^ (k + 3)));
-      }
+      cut_within (h * 2 ^ 64 + l) 56 0 (h * 2 ^ (61 - k) + l / 2 ^ (k + 3)) (k + 3) (l % 2 ^ (k + 3))
+      (omega (arith, ap (λ (x : ℕ). h * x) word_split, div-add-mod' l (2 ^ (k + 3)))) (mod-lt l (pow_pos (k + 3)))
+      (not (eqb (l % 2 ^ (k + 3)) 0)) (nothing_lost (l % 2 ^ (k + 3))) (something_lost (l % 2 ^ (k + 3)))

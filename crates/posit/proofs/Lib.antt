@@ -1,3 +1,4 @@
+pub mod Formats
 pub mod Growth
 pub mod Run
 pub mod Tail
@@ -53,6 +54,7 @@ pub mod Operations
 pub mod ScalePlace
 pub mod Packing
 pub mod Turned
+pub mod TurnedOrder
 pub mod RoundTrip
 pub mod Comparison
 pub mod Negation

@@ -1,12 +1,9 @@
 -- What the machine's shifts and wrapping differences are in plain arithmetic: a power of two that fits a word stays what it is,
 -- and a difference that wraps at the word, cut to n bits, wraps at n bits.
-use Rattle.std.proofs.Common.{◌≡◌, ℕ, zero, suc, ◌+◌, ◌-◌, ◌*◌, ◌/◌, ◌%◌, ◌^◌, ◌<◌, ◌≤◌, ◌⊎◌, sym, refl, ap, ◌∙◌, inl, inr, mod-eq_of_lt, eq-zero-or-pos, one-mul, div-add-mod', sub-add_cancel, arith, pow_pos, pow-add}
+use Rattle.std.proofs.Common.{◌≡◌, ℕ, zero, suc, ◌+◌, ◌-◌, ◌*◌, ◌/◌, ◌%◌, ◌^◌, ◌<◌, ◌≤◌, ◌⊎◌, sym, refl, ap, ◌∙◌, inl, inr, mod-eq_of_lt, eq-zero-or-pos, div-add-mod', sub-add_cancel, arith, pow_pos, pow-add}
 use native.Mathlib.Nat.{add-mul-mod_self_right, sub-zero, mod_self}
 use lib.Pow.{pow-lt}
 use Rattle.posit.specs.Format.{negated}
-
-pub power_fits : (w k : ℕ) → k < w → 1 * 2 ^ k % 2 ^ w ≡ 2 ^ k
-power_fits w k h = ap (λ (x : ℕ). x % 2 ^ w) (one-mul (2 ^ k)) ∙ mod-eq_of_lt (pow-lt h)
 
 -- r + p is a whole number of turns of P, at least one
 turned : (c P r p : ℕ) → p < P → r + p ≡ suc c * P → r ≡ P - p + c * P

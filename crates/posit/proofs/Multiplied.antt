@@ -1,28 +1,24 @@
 -- The product of two posits, by what they are: NaR with NaR, 0 with 0, and of two other numbers the rounded product of their values.
-use Rattle.std.proofs.Common.{◌≡◌, ℕ, Bool, not, ◌≢◌, ℤ, refl, w32, to_z, of_z}
+use Rattle.std.proofs.Common.{◌≡◌, ℕ, Bool, false, not, ◌≢◌, ℤ, refl, w32, to_z, of_z}
 use mathlib.Core.Bool.{beq}
+use Rattle.exact.specs.Fraction.{◌*ᶠ◌}
 use Rattle.exact.proofs.Order.{≈_refl, ≈_trans}
 use Rattle.exact.proofs.Product.{*ᶠ_cong, *ᶠ_zero, zero_*ᶠ}
-use Rattle.posit.specs.declared.decoded.Decoded.{Decoded}
 use Rattle.posit.specs.declared.decoded.Decoded.TheVariants.{Finite}
 use Rattle.posit.specs.declared.inner.magnitude.Magnitude.{Magnitude}
 use Rattle.posit.specs.Format.{Format, nar}
 use Rattle.posit.specs.Value.{value}
 use Rattle.posit.specs.Rounding.{zero_gives_zero}
-use Rattle.posit.specs.Magnitudes.{Unpacks, ProductOf, RoundsEach}
+use Rattle.posit.specs.Decoding.{finite_value}
+use Rattle.posit.specs.SmallForm.{Unpacks}
+use Rattle.posit.specs.Magnitudes.{Knows, RoundsEach}
 use Rattle.call.specs.Operation.{times}
 use Rattle.posit.specs.Operation.{Operates}
 use Rattle.posit.proofs.SmallScale.{kept}
-use Rattle.posit.proofs.Operated.{no_number, a_number, nar_left, nar_right, both_numbers, zero_not_nar, zero_value, is_finite, is_small}
+use Rattle.posit.proofs.Operated.{a_number, both_numbers, zero_not_nar, zero_value}
 use Rattle.posit.proofs.SignedResult.{product_signs, rounds_signed}
 
 module _ (n es p q : ℕ) where
-  pub times_nar_left : {r : ℕ} → p ≡ nar n → r ≡ nar n → Operates n es times p q r
-  times_nar_left e i = no_number (nar_left n times p q e) i
-
-  pub times_nar_right : {r : ℕ} → q ≡ nar n → r ≡ nar n → Operates n es times p q r
-  times_nar_right e i = no_number (nar_right n times p q e) i
-
   pub zero_times : p ≡ 0 → q ≢ nar n → Operates n es times p q 0
   zero_times e h =
       a_number (both_numbers n times p q (zero_not_nar n e) h refl)
@@ -35,9 +31,9 @@ module _ (n es p q : ℕ) where
 
 -- two numbers, their scales as the machine holds them
 pub numbers_times :
-    {n es p q : ℕ} → Format n es → {d e : Decoded} → Unpacks n es p d → Unpacks n es q e → {a b : Bool} {s t : ℤ} {g h : ℕ} → d ≡ Finite a s g
-    → e ≡ Finite b t h → {x : Magnitude} {r : ℕ} → ProductOf (to_z w32 (of_z w32 s)) g (to_z w32 (of_z w32 t)) h x
+    {n es p q r : ℕ} {a b : Bool} {s t : ℤ} {g h : ℕ} (x : Magnitude) → Format n es → Unpacks n es p (Finite a s g) → Unpacks n es q (Finite b t h)
+    → Knows (finite_value false (to_z w32 (of_z w32 s)) g *ᶠ finite_value false (to_z w32 (of_z w32 t)) h) x
     → RoundsEach n es (not (beq a b)) x r → Operates n es times p q r
-numbers_times {n} {p = p} {q = q} f u v i j k each =
-    a_number (both_numbers n times p q (is_finite u i).finite.not_nar (is_finite v j).finite.not_nar refl)
-    (rounds_signed product_signs f (is_finite u i) (is_finite v j) (rw (kept (is_small u i), kept (is_small v j)) at k) each)
+numbers_times {n} {p = p} {q = q} x f u v k each =
+    a_number (both_numbers n times p q u.decodes.finite.not_nar v.decodes.finite.not_nar refl)
+    (rounds_signed product_signs x f u.decodes v.decodes (rw (kept u.small, kept v.small) at k) each)

@@ -16,7 +16,7 @@ use Rattle.posit.specs.Format.{Format, nar, m, negated}
 use Rattle.posit.specs.Value.{multiple}
 use Rattle.posit.specs.Decoding.{Decodes}
 use Rattle.posit.specs.Parts.{chosen_by, PartsOf, OddOf, Odd}
-use Rattle.posit.specs.Magnitudes.{Small, Unpacks}
+use Rattle.posit.specs.SmallForm.{Small, Unpacks}
 use Rattle.posit.proofs.Chosen.{first_of_two, second_of}
 use Rattle.posit.proofs.Apart.{FirstBit, clear, set, times_power}
 use Rattle.posit.proofs.Mirror.{nar_is_half, negated_positive, units_below, value_above}
@@ -76,9 +76,6 @@ module _ {n es p : ℕ} {r : Parts} (f : Format n es) (x : PartsOf (n - 1) es p 
 
   pub up_less : r.scale + count_trailing_zeros 32 r.significand < 2 ^ 31
   up_less = let s = small f x in omega (arith, zeros_few)
-
-  pub lift_less : (n - 2) * 2 ^ es < 2 ^ 31
-  lift_less = omega (arith, (small f x).lift)
 
   pub down_less : r.bits + (n - 2) * 2 ^ es < 2 ^ 31
   down_less = let s = small f x in omega arith

@@ -1,7 +1,8 @@
 -- The four operations have one answer each, and it is the definition's: where there is no number it is NaR, and else an exact value has one rounding.
 use Rattle.std.proofs.Common.{◌≡◌, ℕ, Bool, true, false, sym, refl, ◌∙◌}
-use native.Mathlib.Decide.{ℕ_discrete}
-use Rattle.posit.specs.declared.answer.Answer.{Answer}
+use Rattle.std.specs.Prelude.{Result}
+use Rattle.call.specs.declared.refusal.Refusal.{Refusal}
+use Rattle.call.proofs.Answered.{accepts, one_answer}
 use Rattle.posit.specs.Format.{Format, nar}
 use Rattle.posit.specs.Value.{value}
 use Rattle.posit.specs.Nearest.{nearest}
@@ -39,16 +40,8 @@ module _ {n es : ℕ} (f : Format n es) (op p q : ℕ) where
       by false e = OneAnswer.one_answer n es f.wide_enough (o.number e) ∙ sym (answer_number n es op p q e)
 
 -- ---- so a call has one answer too, refused or not
-same_answer : {a b : Answer} → a.number ≡ b.number → a.place ≡ b.place → a.posit ≡ b.posit → a ≡ b
-same_answer e f g = λ i. record { number = e i; place = f i; posit = g i }
-
-module _ (n es op p q : ℕ) {a b : Answer} (x : OperationOf n es op p q a) (y : OperationOf n es op p q b) where
-  same_posit : Dec ((verdict_of_operation n es op p q).number ≡ 0) → a.posit ≡ b.posit
-  same_posit (yes h) =
-      let f = operation_format n es op p q h in
-      operates_once f op p q (x.right h) ∙ sym (operates_once f op p q (y.right h))
-  same_posit (no h) = x.refused h ∙ sym (y.refused h)
-
-  pub operation_once : a ≡ b
+module _ (n es op p q : ℕ) where
+  pub operation_once : (a b : Result ℕ Refusal) → OperationOf n es op p q a → OperationOf n es op p q b → a ≡ b
   operation_once =
-      same_answer (x.number_is ∙ sym y.number_is) (x.place_is ∙ sym y.place_is) (same_posit (ℕ_discrete (verdict_of_operation n es op p q).number 0))
+      one_answer (verdict_of_operation n es op p q) (Operates n es op p q)
+      (λ passed x y h k. let f = operation_format n es op p q (accepts passed) in operates_once f op p q h ∙ sym (operates_once f op p q k))

@@ -1,40 +1,22 @@
 -- From the place of |x| to the encoded posit: the floor gives the rounding of the magnitude (`FromFloor`), rounding commutes with negation
 -- (`RoundMirror`), and a fraction of 0 means 0.
-use Rattle.std.proofs.Common.{◌≡◌, ℕ, ◌^◌, ◌<◌, Bool, true, false, ℤ, pos, sym, refl, ap, ◌∙◌, subst}
+use Rattle.std.proofs.Common.{◌≡◌, ℕ, ◌^◌, ◌<◌, Bool, true, false, ℤ, pos, sym, ap, ◌∙◌, subst}
 use Rattle.exact.specs.Whole.{above_zero}
-use Rattle.exact.specs.Fraction.{◌<ᶠ◌, ◌≈◌, whole}
-use Rattle.exact.proofs.Scaled.{scaled_zero, scaled_>0, scaled_negᶠ}
+use Rattle.exact.specs.Fraction.{◌<ᶠ◌, whole}
+use Rattle.exact.proofs.Scaled.{scaled_>0, scaled_negᶠ}
 use Rattle.posit.specs.declared.decoded.Decoded.{Decoded}
-use Rattle.posit.specs.declared.decoded.Decoded.TheVariants.{Zero, Nar, Finite}
+use Rattle.posit.specs.declared.decoded.Decoded.TheVariants.{Finite}
 use Rattle.posit.specs.declared.inner.locate.Located.{Located}
-use Rattle.posit.specs.Format.{Format, nar}
-use Rattle.posit.specs.Rounding.{Rounds, zero_gives_zero}
+use Rattle.posit.specs.Format.{Format}
+use Rattle.posit.specs.Rounding.{Rounds}
 use Rattle.posit.specs.Decoding.{Encodes, finite_value}
 use Rattle.posit.specs.Parts.{LocatesScaled, rounded_of, with_sign}
-use Rattle.posit.proofs.Mirror.{nar_wider}
 use Rattle.posit.proofs.RoundMirror.{rounds_negated}
 use Rattle.posit.proofs.OneAnswer.{rounds_respects}
 use Rattle.posit.proofs.FromFloor.{rounds_from_floor, rounded_fits}
 
--- ---- the three forms
-pub zero_encodes : (n es : ℕ) {d : Decoded} → d ≡ Zero → Encodes n es d 0
-zero_encodes n es e = subst (λ d. Encodes n es d 0) (sym e) refl
-
-pub nar_encodes : (n es : ℕ) {d : Decoded} {p : ℕ} → d ≡ Nar → p ≡ nar n → Encodes n es d p
-nar_encodes n es {p = p} e h = subst (λ d. Encodes n es d p) (sym e) h
-
-no_sign : (negative : Bool) (z : ℤ) → finite_value negative z 0 ≈ whole (pos 0)
-no_sign true z = scaled_zero z
-no_sign false z = scaled_zero z
-
-pub nothing_encodes : (n es : ℕ) {d : Decoded} {negative : Bool} {z : ℤ} {g : ℕ} → d ≡ Finite negative z g → g ≡ 0 → Encodes n es d 0
-nothing_encodes n es {negative = negative} {z = z} e i = subst (λ d. Encodes n es d 0) (sym (e ∙ ap (Finite negative z) i)) (zero_gives_zero (no_sign negative z) refl)
-
 -- ---- a magnitude that was located
 module _ {n es : ℕ} (f : Format n es) {z : ℤ} {g : ℕ} {r : Located} (l : LocatesScaled n es z g r) where
-  pub pattern_fits : r.pattern < 2 ^ n
-  pattern_fits = rw (nar_wider n) at l.floor.fits
-
   module _ (above : 0 < g) where
     positive : whole (pos 0) <ᶠ finite_value false z g
     positive = (scaled_>0 z).1 (above_zero above)

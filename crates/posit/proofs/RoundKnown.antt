@@ -11,7 +11,7 @@ use Rattle.posit.specs.Value.{value}
 use Rattle.posit.specs.Rounding.{Rounds}
 use Rattle.posit.specs.Locating.{given, Locates}
 use Rattle.posit.specs.Parts.{rounded_of, with_sign}
-use Rattle.posit.specs.Magnitudes.{Words, RoundsEach, with_signᶠ}
+use Rattle.posit.specs.Magnitudes.{RoundsEach, with_signᶠ}
 use Rattle.posit.proofs.Mirror.{nar_wider}
 use Rattle.posit.proofs.RoundMirror.{rounds_negated}
 use Rattle.posit.proofs.OneAnswer.{rounded_finite}
@@ -22,7 +22,7 @@ pub rounds_with_sign : {n es : ℕ} → Format n es → (negative : Bool) {z : F
 rounds_with_sign {n} {es} f true h = rounds_negated n es f.wide_enough h
 rounds_with_sign f false h = h
 
-module _ {n es : ℕ} (f : Format n es) {x : Magnitude} (w : Words x) {L : ℕ} {exact : Bool} (l : Locates n es x.g x.s x.a L exact) where
+module _ {n es : ℕ} (f : Format n es) (x : Magnitude) {L : ℕ} {exact : Bool} (l : Locates n es x.g x.s x.a L exact) where
   abbrev low : Fraction
   low = given x.g x.s x.a
 
@@ -33,7 +33,7 @@ module _ {n es : ℕ} (f : Format n es) {x : Magnitude} (w : Words x) {L : ℕ} 
   next = next_given x.g x.s x.a
 
   low_positive : whole (pos 0) <ᶠ low
-  low_positive = >0.1 (above_zero (mul-pos {m = x.g} {n = 2 ^ x.s} (omega (arith, w.enough)) (pow_pos x.s)))
+  low_positive = >0.1 (above_zero (mul-pos {m = x.g} {n = 2 ^ x.s} (omega (arith, x.g_from)) (pow_pos x.s)))
 
   low_reached : value (n + 1) es L ≤ᶠ low
   low_reached = (l.floor low (≤ᶠ_refl low) next).at_most

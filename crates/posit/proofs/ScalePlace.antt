@@ -1,8 +1,8 @@
 -- Where fraction · 2^scale lies: a scale of either sign is read back, widened and turned without loss, and the zero bits below the fraction are
 -- taken off again by the power under it, so that the number located is the number meant.
-use Rattle.std.proofs.Common.{◌≡◌, ℕ, zero, suc, ◌+◌, ◌*◌, ◌^◌, ◌<◌, ◌≤◌, true, false, T, ℤ, pos, negsuc, ◌-ℤ◌, neg_ℤ, nat_abs, sym, refl, ap, ◌∙◌, subst, mul-lt-mul_of_pos_right, arith, pow_pos, pow-add, w32, w64, SFits, to_z, of_z, ltb-true}
+use Rattle.std.proofs.Common.{◌≡◌, ℕ, zero, suc, ◌+◌, ◌*◌, ◌^◌, ◌<◌, true, false, T, ℤ, pos, negsuc, ◌-ℤ◌, neg_ℤ, nat_abs, sym, refl, ap, ◌∙◌, subst, mul-lt-mul_of_pos_right, arith, pow_pos, pow-add, w32, w64, SFits, to_z, of_z, ltb-true}
 use lib.IntN.{+ℤ_idl}
-use lib.Signed.{lt_z, non_neg}
+use lib.Signed.{lt_z}
 use mir.ValLaws.{to_z-of_z}
 use Rattle.exact.specs.Fraction.{◌<ᶠ◌, ◌≈◌}
 use Rattle.exact.proofs.Order.{≤ᶠ_of_≈, ≈_sym, ≈_trans, ≈_<ᶠ, <ᶠ_≈}
@@ -34,14 +34,8 @@ module _ (z : ℤ) (f : SFits w32 z) where
   read_back_says : read_back z ≡ z
   read_back_says = to_z-of_z w32 z f
 
-  pub read_back_fits : SFits w64 (read_back z)
-  read_back_fits = subst (λ y. SFits w64 y) (sym read_back_says) (wider f)
-
   opposite : pos 0 -ℤ widened z ≡ neg_ℤ z
   opposite = ap (λ y. pos 0 -ℤ y) (ap (λ y. to_z w64 (of_z w64 y)) read_back_says ∙ to_z-of_z w64 z (wider f)) ∙ +ℤ_idl (neg_ℤ z)
-
-  pub opposite_fits : SFits w64 (pos 0 -ℤ widened z)
-  opposite_fits = subst (λ y. SFits w64 y) (sym opposite) (negative_fits z f)
 
   turned_is : turned z ≡ neg_ℤ z
   turned_is = ap (λ y. to_z w64 (of_z w64 y)) opposite ∙ to_z-of_z w64 (neg_ℤ z) (negative_fits z f)
@@ -81,12 +75,6 @@ module _ (z : ℤ) (f : SFits w32 z) where
     down : (k : ℕ) × (k < 2 ^ 31) × (z ≡ negsuc k) × (turned z ≡ pos (suc k))
     down = let (k, l, e) = below_is z f (subst (λ y. lt_z y (pos 0) ≡ true) (read_back_says z f) t) in (k, l, e, turned_is z f ∙ ap neg_ℤ e)
 
-    pub turned_natural : T (non_neg (turned z))
-    turned_natural = let (k, l, e, i) = down in subst (λ y. T (non_neg y)) (sym i) tt
-
-    pub turned_small : nat_abs (turned z) ≤ 2 ^ 31
-    turned_small = let (k, l, e, i) = down in subst (λ y. nat_abs y ≤ 2 ^ 31) (sym i) l
-
     pub scaled_down :
         {n es g : ℕ} {r : Located} → Locates n es (g * 2 ^ 29) 0 (nat_abs (turned z) + 29) r.pattern r.exact → LocatesScaled n es z g r
     scaled_down {n} {es} {g} {r} h =
@@ -97,12 +85,6 @@ module _ (z : ℤ) (f : SFits w32 z) where
   module _ (t : lt_z (read_back z) (pos 0) ≡ false) where
     up : (k : ℕ) × (k < 2 ^ 31) × (z ≡ pos k) × (read_back z ≡ pos k)
     up = let (k, l, e) = above_is z f (subst (λ y. lt_z y (pos 0) ≡ false) (read_back_says z f) t) in (k, l, e, read_back_says z f ∙ e)
-
-    pub read_back_natural : T (non_neg (read_back z))
-    read_back_natural = let (k, l, e, i) = up in subst (λ y. T (non_neg y)) (sym i) tt
-
-    pub read_back_small : nat_abs (read_back z) < 2 ^ 31
-    read_back_small = let (k, l, e, i) = up in subst (λ y. nat_abs y < 2 ^ 31) (sym i) l
 
     pub scaled_up :
         {n es g : ℕ} {r : Located} → Locates n es (g * 2 ^ 29) (nat_abs (read_back z)) 29 r.pattern r.exact → LocatesScaled n es z g r

@@ -1,20 +1,11 @@
--- The highest set bit of a number stands below its leading zeros, and the lowest above its trailing ones: a number is odd times 2 to those.
-use Rattle.std.proofs.Common.{◌≡◌, ℕ, zero, suc, ◌-◌, ◌*◌, ◌/◌, ◌%◌, ◌^◌, ◌<◌, ◌≤◌, refl, ap, ◌∙◌, lt_of_le_of_lt, lt_irrefl, mul-div_cancel, arith, pow_pos}
+-- The highest set bit of a number below 2^b stands below b, and a number is odd times 2 to its trailing zeros.
+use Rattle.std.proofs.Common.{◌≡◌, ℕ, zero, suc, ◌*◌, ◌/◌, ◌%◌, ◌^◌, ◌<◌, refl, ap, ◌∙◌, lt_of_le_of_lt, lt_irrefl, mul-div_cancel, arith, pow_pos}
 use native.Mathlib.Nat.{pow-succ'}
-use lib.Count.{count_leading_zeros, leading_top, count_trailing_zeros}
+use lib.Count.{count_trailing_zeros}
 use Rattle.exact.proofs.Powers.{pow_lt_cancel}
 use Rattle.posit.specs.Parts.{HighestBit}
 
 -- ---- the highest
-pub leading_few : (k x : ℕ) → 0 < x → x < 2 ^ suc k → count_leading_zeros (suc k) x ≤ k
-leading_few k x h u = let s = leading_top (suc k) x h u in omega (arith, s.1)
-
-pub highest : (k x : ℕ) → 0 < x → x < 2 ^ suc k → HighestBit x (k - count_leading_zeros (suc k) x)
-highest k x h u =
-    let s = leading_top (suc k) x h u in
-    let e : k - count_leading_zeros (suc k) x ≡ s.0 = omega (arith, s.1) in
-    rw e (record { at_least = s.2; less = omega (arith, s.3) })
-
 pub highest_below : {x w : ℕ} (b : ℕ) → HighestBit x w → x < 2 ^ b → w < b
 highest_below {w = w} b h u = pow_lt_cancel w b (lt_of_le_of_lt h.at_least u)
 

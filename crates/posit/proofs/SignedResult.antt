@@ -39,10 +39,10 @@ module _ {op : Fraction → Fraction → Fraction} (pass : SignsPass op) where
   signs_through false true x y = ≈_sym (pass.right x y)
   signs_through false false x y = ≈_refl (op x y)
 
-  pub rounds_signed : {n es p q : ℕ} {a b : Bool} {s t : ℤ} {g h : ℕ} {x : Magnitude} {r : ℕ} → Format n es → OddForm n es p a s g → OddForm n es q b t h
+  pub rounds_signed : {n es p q : ℕ} {a b : Bool} {s t : ℤ} {g h : ℕ} (x : Magnitude) {r : ℕ} → Format n es → OddForm n es p a s g → OddForm n es q b t h
       → Knows (op (finite_value false s g) (finite_value false t h)) x → RoundsEach n es (not (beq a b)) x r → Rounds n es (op (value n es p) (value n es q)) r
-  rounds_signed {n} {es} {p} {q} {a} {b} {s} {t} {g} {h} f u v k each =
+  rounds_signed {n} {es} {p} {q} {a} {b} {s} {t} {g} {h} x f u v k each =
       rounds_respects n es f.wide_enough
       (signs_through a b (finite_value false s g) (finite_value false t h)
       ⨾ pass.cong (≈_trans (sign_apart a s g) u.means) (≈_trans (sign_apart b t h) v.means))
-      (each (op (finite_value false s g) (finite_value false t h)) k.within)
+      (each (op (finite_value false s g) (finite_value false t h)) k)

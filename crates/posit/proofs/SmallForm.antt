@@ -6,7 +6,7 @@ use Rattle.exact.proofs.Linear.{spread, parts}
 use Rattle.exact.proofs.WholeOrder.{pos_≥0}
 use Rattle.posit.specs.Format.{Format, nar, m}
 use Rattle.posit.specs.Value.{multiple}
-use Rattle.posit.specs.Magnitudes.{unit_bits, SmallForm}
+use Rattle.posit.specs.SmallForm.{unit_bits, SmallForm}
 use Rattle.posit.proofs.Order.{multiple_le, multiple_top}
 
 -- ---- an odd number has no power of two in it

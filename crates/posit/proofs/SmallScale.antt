@@ -5,7 +5,7 @@ use lib.Signed.{mag, non_neg, yes_non_neg, pos-nat_abs}
 use lib.Pow.{pow-lt}
 use mir.ValLaws.{to_z-of_z}
 use Rattle.exact.proofs.Linear.{given, spread, parts}
-use Rattle.posit.specs.Magnitudes.{unit_bits, SmallForm}
+use Rattle.posit.specs.SmallForm.{unit_bits, SmallForm}
 
 -- 2^e is at most 2^k
 exponent_most : (e k g : ℕ) → 0 < g → g * 2 ^ e ≤ 2 ^ k → e ≤ k
@@ -46,6 +46,3 @@ module _ {s : ℤ} {g : ℕ} (x : SmallForm s g) where
 
   pub cast_is : nat_abs (to_z w32 (of_z w32 (to_z w32 (of_z w32 s) +ℤ pos unit_bits))) ≡ lifted s
   cast_is = rw sum_is
-
-  pub kept_small : SmallForm (to_z w32 (of_z w32 s)) g
-  kept_small = rw kept x

@@ -1,5 +1,5 @@
 -- With the top bit turned over, signed patterns order as unsigned ones: it is right because turning it over adds half of all patterns to the signed integer.
-use Rattle.std.proofs.Common.{◌≡◌, ℕ, ◌+◌, ◌-◌, ◌*◌, ◌%◌, ◌^◌, ◌<◌, ◌≤◌, ◌↔◌, pos, ◌+ℤ◌, neg_ℤ, ◌<ℤ◌, sym, ap, ◌∙◌, ap₂, le_refl, mod-eq_of_lt, arith, pow_pos, pow_mono, le-ltb}
+use Rattle.std.proofs.Common.{◌≡◌, ℕ, ◌+◌, ◌-◌, ◌*◌, ◌%◌, ◌^◌, ◌<◌, ◌≤◌, ◌↔◌, pos, ◌+ℤ◌, neg_ℤ, ◌<ℤ◌, sym, ap, ◌∙◌, ap₂, le_refl, mod-eq_of_lt, arith, pow_pos, le-ltb}
 use native.Mathlib.Nat.{sub_self, add-mod_right, mod-add-mod}
 use native.Mathlib.Decide.{dec_lt}
 use Rattle.exact.proofs.Linear.{spread, parts}
@@ -68,9 +68,6 @@ module _ (n : ℕ) (k : 1 ≤ n) where
 
 -- ---- the same of a half and a whole that were computed
 module _ (n : ℕ) {half : ℕ} (h : half ≡ nar n) where
-  pub sum_fits : {p : ℕ} → n ≤ 16 → p < 2 ^ n → p + half < 2 ^ 32
-  sum_fits l u = omega (arith, pow_mono {i = n} {j = 16} l, pow_mono {i = n - 1} {j = 16} (omega arith))
-
   module _ {a b p q : ℕ} (k : 3 ≤ n) (u : p < 2 ^ n) (v : q < 2 ^ n) (ea : a ≡ 2 ^ n) (eb : b ≡ 2 ^ n) where
     turned_of : (x : ℕ) {all : ℕ} → all ≡ 2 ^ n → (x + half) % all ≡ turned n x
     turned_of x e = ap₂ (λ (y z : ℕ). (x + y) % z) h e

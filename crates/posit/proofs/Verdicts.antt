@@ -1,13 +1,16 @@
 -- The verdict of a call by its tests: each test that fails leaves the rest of the list, and the first that hits is the verdict.
-use Rattle.std.proofs.Common.{◌≡◌, ℕ, suc, ◌^◌, ◌<◌, ◌≤◌, Bool, true, false, not, ◌&&◌, leb, List, [], ◌∷◌, sym, refl, ap, ◌∙◌, suc-ne-zero, le-ltb, lt-ltb, le-leb, leb-false, leb-true}
+use Rattle.std.proofs.Common.{◌≡◌, ℕ, subst, ◌^◌, ◌<◌, ◌≤◌, Bool, true, false, not, ◌&&◌, leb, List, [], ◌∷◌, sym, refl, ap, ◌∙◌, suc-ne-zero, le-ltb, lt-ltb, le-leb, leb-false, leb-true}
 use borrow.Author.Tests.{lt-leb}
 use Rattle.posit.specs.Format.{Format, is_format}
-use Rattle.call.specs.Verdict.{Verdict, Test, done, first_hit}
+use Rattle.call.specs.Verdict.{Verdict, Test, Says, done, refused, first_hit}
 use Rattle.call.specs.Place.{left, right}
-use Rattle.posit.specs.Refusal.{format_test, posit_test, verdict_of_format, verdict_of_one, verdict_of_two, verdict_of_operation}
+use Rattle.posit.specs.Refusal.{format_test, posit_test, verdict_of_posit, verdict_of_posits, verdict_of_format, verdict_of_one, verdict_of_two, verdict_of_operation}
 use Rattle.call.specs.Operation.{operation_test}
 use Rattle.call.proofs.Facts.{both_parts}
 use Rattle.call.proofs.FirstHit.{hits, passes, none_hits}
+use Rattle.std.specs.Prelude.{Result}
+use Rattle.call.specs.declared.refusal.Refusal.{Refusal}
+use Rattle.call.proofs.Said.{refused_first}
 
 -- ---- the format test, and a format from it
 pub format_of : {n es : ℕ} → is_format n es ≡ true → Format n es
@@ -125,30 +128,73 @@ operation_judged n es op p q l = by (is_format n es) refl
     by true e = operation_inside n es op p q e l ∙ sym (two_inside n es p q e)
     by false e = operation_outside n es op p q e ∙ sym (two_outside n es p q e)
 
--- ---- two posits that no test hits
-pub record Accepted (n es p q : ℕ) : Type 0 where
-  pub format : Format n es
-  pub left_fits : p < 2 ^ n
-  pub right_fits : q < 2 ^ n
-  pub verdict : verdict_of_two n es p q ≡ done
+-- ---- one posit, at a place
+pub posit_large : (n place p : ℕ) → 2 ^ n ≤ p → verdict_of_posit n place p ≡ record { number = 3; place = place }
+posit_large n place p h = posit_hits n place p [] h
 
-module _ (n es p q : ℕ) (passed : (verdict_of_two n es p q).number ≡ 0) where
-  not_hit : {X : Type 0} {k place : ℕ} → verdict_of_two n es p q ≡ record { number = suc k; place = place } → X
-  not_hit {k = k} e = absurd (suc-ne-zero k (sym (ap (λ (x : Verdict). x.number) e) ∙ passed))
+pub posit_fits : (n place p : ℕ) → p < 2 ^ n → verdict_of_posit n place p ≡ done
+posit_fits n place p h = posit_passes n place p [] h ∙ none_hits
 
-  pub accepted : Accepted n es p q
-  accepted = by (is_format n es) refl (leb (2 ^ n) p) refl (leb (2 ^ n) q) refl
-    where
-      by : (a : Bool) → is_format n es ≡ a → (b : Bool) → leb (2 ^ n) p ≡ b → (c : Bool) → leb (2 ^ n) q ≡ c → Accepted n es p q
-      by false e b h c k = not_hit (two_outside n es p q e)
-      by true e true h c k = not_hit (two_left n es p q e (leb-true (2 ^ n) p h))
-      by true e false h true k = not_hit (two_right n es p q e (leb-false (2 ^ n) p h) (leb-true (2 ^ n) q k))
-      by true e false h false k =
-          let l = leb-false (2 ^ n) p h in
-          let r = leb-false (2 ^ n) q k in
-          record { format = format_of e; left_fits = l; right_fits = r; verdict = two_done n es p q e l r }
+pub fits_of_verdict : (n place p : ℕ) → verdict_of_posit n place p ≡ done → p < 2 ^ n
+fits_of_verdict n place p passed = by (leb (2 ^ n) p) refl
+  where
+    by : (b : Bool) → leb (2 ^ n) p ≡ b → p < 2 ^ n
+    by true h = absurd (suc-ne-zero 2 (sym (ap (λ (x : Verdict). x.number) (posit_large n place p (leb-true (2 ^ n) p h))) ∙ ap (λ (x : Verdict). x.number) passed))
+    by false h = leb-false (2 ^ n) p h
 
--- ---- an operation that no test hits is one of a format
+-- ---- two posits: the left one, then the right one
+pub posits_by_left : (n p q : ℕ) (e : Refusal) → verdict_of_posit n left p ≡ refused e → verdict_of_posits n p q ≡ refused e
+posits_by_left n p q e s = refused_first (posit_test n left p ∷ []) (posit_test n right q ∷ []) e s
+
+pub posits_by_right : (n p q : ℕ) → verdict_of_posit n left p ≡ done → (r : Result (Unit {0}) Refusal) → Says (verdict_of_posit n right q) r → Says (verdict_of_posits n p q) r
+posits_by_right n p q h r s = subst (λ (v : Verdict). Says v r) (sym (posit_passes n left p _ (fits_of_verdict n left p h))) s
+
+pub fits_of_verdicts : (n p q : ℕ) → verdict_of_posits n p q ≡ done → (p < 2 ^ n) × (q < 2 ^ n)
+fits_of_verdicts n p q passed = by (leb (2 ^ n) p) refl
+  where
+    by : (b : Bool) → leb (2 ^ n) p ≡ b → (p < 2 ^ n) × (q < 2 ^ n)
+    by true h = absurd (suc-ne-zero 2 (sym (ap (λ (x : Verdict). x.number) (posit_hits n left p _ (leb-true (2 ^ n) p h))) ∙ ap (λ (x : Verdict). x.number) passed))
+    by false h = let l = leb-false (2 ^ n) p h in (l, fits_of_verdict n right q (sym (posit_passes n left p _ l) ∙ passed))
+
+-- ---- a call of a format is judged by its posits
+module _ {n es : ℕ} (f : Format n es) where
+  format_is : is_format n es ≡ true
+  format_is = rw (le-leb 3 n f.wide_enough, le-leb n 16 f.not_too_wide, le-leb es 2 f.exponent_fits)
+
+  pub format_judged : verdict_of_format n es ≡ done
+  format_judged = format_done n es format_is
+
+  pub one_judged : (p : ℕ) → verdict_of_one n es p ≡ verdict_of_posit n left p
+  unfolding verdict_of_one
+  one_judged p = format_passes n es _ format_is
+
+  pub two_judged : (p q : ℕ) → verdict_of_two n es p q ≡ verdict_of_posits n p q
+  two_judged p q = two_inside n es p q format_is
+
+  pub operation_by_posits : (op p q : ℕ) → op ≤ 3 → verdict_of_operation n es op p q ≡ verdict_of_posits n p q
+  operation_by_posits op p q l = operation_inside n es op p q format_is l
+
+  pub operation_by_number : (op p q : ℕ) → 3 < op → verdict_of_operation n es op p q ≡ record { number = 2; place = 0 }
+  operation_by_number op p q h = operation_unknown n es op p q format_is h
+
+-- ---- a call that no test hits is one of a format
+not_done : {v : Verdict} {X : Type 0} → v.number ≡ 0 → v ≡ record { number = 1; place = 0 } → X
+not_done z e = absurd (suc-ne-zero 0 (sym (ap (λ (x : Verdict). x.number) e) ∙ z))
+
+pub format_accepted : (n es : ℕ) → (verdict_of_format n es).number ≡ 0 → Format n es
+format_accepted n es passed = by (is_format n es) refl
+  where
+    by : (b : Bool) → is_format n es ≡ b → Format n es
+    by true e = format_of e
+    by false e = not_done passed (format_outside n es e)
+
+pub format_of_one : (n es p : ℕ) → (verdict_of_one n es p).number ≡ 0 → is_format n es ≡ true
+format_of_one n es p passed = by (is_format n es) refl
+  where
+    by : (b : Bool) → is_format n es ≡ b → is_format n es ≡ true
+    by true e = e
+    by false e = not_done passed (one_outside n es p e)
+
 pub operation_format : (n es op p q : ℕ) → (verdict_of_operation n es op p q).number ≡ 0 → Format n es
 operation_format n es op p q passed = by (is_format n es) refl
   where

@@ -1,10 +1,9 @@
 -- What a decoded posit means: zero, NaR, or sign · g · 2^s, the fraction g a whole number and s a scale of either sign.
-use Rattle.std.specs.Prelude.{◌≡◌, ℕ, ◌%◌, Bool, true, false, ◌≢◌, ℤ, pos, neg_ℤ}
+use Rattle.std.specs.Prelude.{◌≡◌, ℕ, ◌%◌, Bool, true, false, ◌≢◌, ℤ, pos, neg_ℤ, Result}
 use Rattle.exact.specs.Fraction.{Fraction, ◌≈◌, scaled}
 use Rattle.posit.specs.declared.decoded.Decoded.{Decoded}
 use Rattle.posit.specs.declared.decoded.Decoded.TheVariants.{Zero, Nar, Finite}
-use Rattle.posit.specs.declared.decode.Decoding.{Decoding}
-use Rattle.posit.specs.declared.answer.Answer.{Answer}
+use Rattle.call.specs.declared.refusal.Refusal.{Refusal}
 use Rattle.call.specs.Verdict.{Answers}
 use Rattle.posit.specs.Refusal.{verdict_of_format, verdict_of_one}
 use Rattle.posit.specs.Format as Format
@@ -41,9 +40,9 @@ Encodes n es Nar p = p ≡ nar n
 Encodes n es (Finite negative s g) p = Rounds n es (finite_value negative s g) p
 
 -- what `decode` answers
-abbrev pub DecodingOf : ℕ → ℕ → ℕ → Decoding → Type 0
-DecodingOf n es p r = Answers (verdict_of_one n es p) r.number r.place (Decodes n es p r.decoded) (r.decoded ≡ Zero)
+abbrev pub DecodingOf : ℕ → ℕ → ℕ → Result Decoded Refusal → Type 0
+DecodingOf n es p r = Answers (verdict_of_one n es p) (Decodes n es p) r
 
 -- what `encode` answers
-abbrev pub EncodingOf : ℕ → ℕ → Decoded → Answer → Type 0
-EncodingOf n es d r = Answers (verdict_of_format n es) r.number r.place (Encodes n es d r.posit) (r.posit ≡ 0)
+abbrev pub EncodingOf : ℕ → ℕ → Decoded → Result ℕ Refusal → Type 0
+EncodingOf n es d r = Answers (verdict_of_format n es) (Encodes n es d) r

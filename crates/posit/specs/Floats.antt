@@ -1,11 +1,10 @@
 -- Posits from and to 64-bit floats, by exact values.
-use Rattle.std.specs.Prelude.{◌≡◌, ℕ, ◌*◌, ◌^◌, ◌<◌, Bool, false, pos, Float}
+use Rattle.std.specs.Prelude.{◌≡◌, ℕ, ◌*◌, ◌^◌, ◌<◌, Bool, false, pos, Float, Result}
 use Rattle.std.specs.Float.{nan, inf, fin}
 use Rattle.exact.specs.Fraction.{Fraction, ◌≈◌, whole, over_power}
-use Rattle.posit.specs.declared.answer.Answer.{Answer}
+use Rattle.call.specs.declared.refusal.Refusal.{Refusal}
 use Rattle.posit.specs.declared.float.Floated.{Floated}
 use Rattle.posit.specs.declared.float.Floated.TheVariants.{Value, Nar}
-use Rattle.posit.specs.declared.to_float.Floating.{Floating}
 use Rattle.posit.specs.declared.inner.float_bits.FloatParts.{FloatParts}
 use Rattle.posit.specs.declared.inner.float_bits.FloatParts.TheVariants.{Infinite, Nothing, Number}
 use Rattle.posit.specs.Format.{Finite, nar}
@@ -32,8 +31,8 @@ FromFloat n es nan p = p ≡ nar n
 FromFloat n es (inf s) p = p ≡ nar n
 FromFloat n es (fin t m e) p = Rounds n es (finite_value t e m) p
 
-abbrev pub FromFloatOf : ℕ → ℕ → Float → Answer → Type 0
-FromFloatOf n es x r = Answers (verdict_of_format n es) r.number r.place (FromFloat n es x r.posit) (r.posit ≡ 0)
+abbrev pub FromFloatOf : ℕ → ℕ → Float → Result ℕ Refusal → Type 0
+FromFloatOf n es x r = Answers (verdict_of_format n es) (FromFloat n es x) r
 
 -- digits · 2^shift of the smallest float above 0, 2^-1074
 abbrev pub of_digits : ℕ → ℕ → Fraction
@@ -67,5 +66,5 @@ abbrev pub ToFloat : ℕ → ℕ → ℕ → Floated → Type 0
 ToFloat n es p (Value x) = ExactFloat n es p x
 ToFloat n es p Nar = p ≡ nar n
 
-abbrev pub FloatingOf : ℕ → ℕ → ℕ → Floating → Type 0
-FloatingOf n es p r = Answers (verdict_of_one n es p) r.number r.place (ToFloat n es p r.floated) (r.floated ≡ Value plus_zero)
+abbrev pub FloatingOf : ℕ → ℕ → ℕ → Result Floated Refusal → Type 0
+FloatingOf n es p r = Answers (verdict_of_one n es p) (ToFloat n es p) r

@@ -1,4 +1,5 @@
 pub mod Format
+pub mod Formats
 pub mod Reading
 pub mod Value
 pub mod Rounding
@@ -11,5 +12,6 @@ pub mod Negating
 pub mod Parts
 pub mod Locating
 pub mod Operation
+pub mod SmallForm
 pub mod Magnitudes
 pub mod Floats

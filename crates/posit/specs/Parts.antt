@@ -9,7 +9,7 @@ use Rattle.posit.specs.Format.{max_pos, min_pos, negated}
 use Rattle.posit.specs.Value.{multiple, value}
 use Rattle.posit.specs.Decoding.{finite_value}
 use Rattle.posit.specs.Locating.{IsFloor}
-use Rattle.posit.specs.Magnitudes.{SmallForm}
+use Rattle.posit.specs.SmallForm.{SmallForm}
 
 -- bit k is the highest set bit of x
 pub record HighestBit (x k : ℕ) : Type 0 where

@@ -14,6 +14,13 @@ format_test n es = record { hit = not (is_format n es); gives = record { number 
 abbrev pub posit_test : ℕ → ℕ → ℕ → Test
 posit_test n place p = record { hit = nat_le (2 ^ n) p; gives = record { number = too_large; place = place } }
 
+-- ---- one posit of a format, at a place, and two
+abbrev pub verdict_of_posit : ℕ → ℕ → ℕ → Verdict
+verdict_of_posit n place p = first_hit (posit_test n place p ∷ [])
+
+abbrev pub verdict_of_posits : ℕ → ℕ → ℕ → Verdict
+verdict_of_posits n p q = first_hit (posit_test n left p ∷ posit_test n right q ∷ [])
+
 -- ---- and the calls
 -- encode, from a float
 unfoldable pub verdict_of_format : ℕ → ℕ → Verdict

@@ -2,39 +2,16 @@
 ghost use Rattle.posit.specs.Decoding.{DecodingOf};
 
 use super::decoded::Decoded;
-use super::inner::format::is_format;
-use super::inner::power::power32;
+use super::inner::format::Format;
+use super::inner::judge::judge_posit;
 use super::inner::unpack::unpack;
-use call::number::{DONE, OUTSIDE_LIMITS, TOO_LARGE};
 use call::place::LEFT;
+use call::refusal::Refusal;
 
-#[derive(Clone, Copy)]
-pub struct Decoding {
-    pub number: u32,
-    pub place: u32,
-    pub decoded: Decoded,
-}
-
-pub fn decode(n: u32, es: u32, p: u32) -> Decoding
+pub fn decode(n: u32, es: u32, p: u32) -> Result<Decoded, Refusal>
     ensures { DecodingOf n es p result }
 {
-    if !is_format(n, es) {
-        return Decoding {
-            number: OUTSIDE_LIMITS,
-            place: LEFT,
-            decoded: Decoded::Zero,
-        };
-    }
-    if power32(n) <= p {
-        return Decoding {
-            number: TOO_LARGE,
-            place: LEFT,
-            decoded: Decoded::Zero,
-        };
-    }
-    Decoding {
-        number: DONE,
-        place: LEFT,
-        decoded: unpack(n, es, p),
-    }
+    let f = Format::new(n, es)?;
+    judge_posit(f, LEFT, p)?;
+    Ok(unpack(f, p))
 }

@@ -1,5 +1,5 @@
 // A decoded posit: zero, NaR, or a finite number that means sign · fraction · 2^scale.
-#[derive(Clone, Copy)]
+#[derive(Clone, Copy, Debug, PartialEq, Eq)]
 pub enum Decoded {
     Zero,
     Nar,

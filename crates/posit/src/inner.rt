@@ -2,6 +2,7 @@
 pub mod add;
 pub mod choose;
 pub mod divide;
+pub mod finite;
 pub mod float_bits;
 pub mod format;
 pub mod judge;
@@ -12,6 +13,7 @@ pub mod power;
 pub mod product;
 pub mod quotient;
 pub mod round;
+pub mod signed;
 pub mod sum;
 pub mod unpack;
 pub mod wide;

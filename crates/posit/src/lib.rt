@@ -1,7 +1,6 @@
 // Posits of 3 to 16 bits with exponent sizes 0 to 2: each call is answered, or refused by number and place.
 #![tactic(auto)]
 
-pub mod answer;
 pub mod compare;
 pub mod decode;
 pub mod decoded;

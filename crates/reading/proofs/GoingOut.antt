@@ -1,10 +1,9 @@
 -- A range going out: a tile's posit is a float exactly, an open NaR is the infinity of its side, and the mark is the tile's lowest bit.
-use mathlib.Core.Path.{◌≡◌, refl, sym, ap, ◌∙◌, subst}
+use mathlib.Core.Path.{◌≡◌, refl, sym, ◌∙◌, subst}
 use mathlib.Core.Bool.{Bool, true, false}
 use mathlib.Core.Logic.{◌≢◌, ◌↔◌}
 use Prim.Native.Nat.{ℕ, zero, suc, ◌/◌, ◌%◌, ◌≤◌, ◌<◌}
 use native.Mathlib.Omega.{arith}
-use native.Mathlib.Decide.{ℕ_discrete}
 use lib.Dec.{T, eqb}
 use lib.Ieee.{Float, nan, inf, fin, binary64, fits, of_bits}
 use borrow.Author.Tests.{eq-eqb, ne_eqb}
@@ -15,7 +14,9 @@ use Rattle.posit.specs.Format.{Format, nar}
 use Rattle.posit.specs.Value.{value}
 use Rattle.posit.specs.Decoding.{finite_value}
 use Rattle.posit.specs.Floats.{ExactFloat}
-use Rattle.call.specs.Verdict.{Verdict, done}
+use Rattle.std.specs.Prelude.{Result, Ok, Err}
+use Rattle.call.specs.declared.refusal.Refusal.{Refusal}
+use Rattle.call.proofs.Answered.{accepts, refuses, one_refusal}
 use Rattle.posit.specs.declared.float.Floated.TheVariants.{Value}
 use Rattle.posit.proofs.FloatExact.{zero_bits}
 use Rattle.posit.proofs.FloatTrip.{same_float}
@@ -24,8 +25,7 @@ use Rattle.word.specs.declared.inner.span.Span.{Span}
 use Rattle.word.specs.Word.{tiles, closed_nar, open_nar, mark_of, end_of_tile, kind, empty, start_tile, end_tile, start_of, end_of}
 use Rattle.word.specs.Member.{Real, Member, AfterStart, BeforeEnd}
 use Rattle.word.specs.Spans.{cells_of}
-use Rattle.word.specs.Refusal.{verdict_of_range}
-use Rattle.reading.specs.Reading.{EndOut, EndsOut, EmptyOut, GoesOut, DoneOut, NothingOut, GivenOut}
+use Rattle.reading.specs.Reading.{EndOut, EndsOut, EmptyOut, GoesOut, GivenOut}
 use Rattle.word.proofs.Places.{start_tile_of_word, end_tile_of_word}
 use Rattle.word.proofs.RealWords.{RealCase, has_cells, has_none, real_case, start_not_nar, end_not_nar, kind_empty}
 use Rattle.word.proofs.Verdicts.{range_format, range_real}
@@ -53,53 +53,34 @@ module _ (n es : ℕ) (negative : Bool) (t : ℕ) {x : Float} where
 
 -- ---- a real range
 module _ {n es a : ℕ} (f : Format n es) (real : Real n a) where
-  pub start_asks : {t : ℕ} → t ≡ start_tile n a → Format n es × (t < tiles n) × (t ≢ closed_nar n)
-  start_asks e = (f, rw e (start_tile_of_word n f.wide_enough real.fits), λ k. start_not_nar n f.wide_enough real (sym e ∙ k))
+  pub start_asks : {t : ℕ} → t ≡ start_tile n a → (t < tiles n) × (t ≢ closed_nar n)
+  start_asks e = (rw e (start_tile_of_word n f.wide_enough real.fits), λ k. start_not_nar n f.wide_enough real (sym e ∙ k))
 
-  pub end_asks : {t : ℕ} → t ≡ end_tile n a → Format n es × (t < tiles n) × (t ≢ closed_nar n)
-  end_asks e = (f, rw e (end_tile_of_word n f.wide_enough a), λ k. end_not_nar n f.wide_enough real (sym e ∙ k))
+  pub end_asks : {t : ℕ} → t ≡ end_tile n a → (t < tiles n) × (t ≢ closed_nar n)
+  end_asks e = (rw e (end_tile_of_word n f.wide_enough a), λ k. end_not_nar n f.wide_enough real (sym e ∙ k))
 
   -- where there are no cells
   pub empty_out : {s : Span} → s ≡ cells_of n a → s.hi < s.lo
-      → DoneOut n es a (record { number = 0; place = 0; low = of_bits binary64 0; high = of_bits binary64 0; low_open = true; high_open = true; empty = true })
+      → GoesOut n es a (record { low = of_bits binary64 0; high = of_bits binary64 0; low_open = true; high_open = true; empty = true })
   empty_out e h =
       let k : kind n a ≡ empty = (kind_empty n f.wide_enough a real.fits).1 (real, rw e at h) in
-      let o : EmptyOut (record { number = 0; place = 0; low = of_bits binary64 0; high = of_bits binary64 0; low_open = true; high_open = true; empty = true })
+      let o : EmptyOut (record { low = of_bits binary64 0; high = of_bits binary64 0; low_open = true; high_open = true; empty = true })
       = record { low_zero = zero_bits; high_zero = zero_bits; low_open = refl; high_open = refl; is_empty = refl } in
-      record { number_done = refl; place_done = refl; goes_out = record { when_empty = λ t. o; when_not = λ t. absurd (t k) } }
+      record { when_empty = λ t. o; when_not = λ t. absurd (t k) }
 
   pub ends_out : {s : Span} → s ≡ cells_of n a → s.lo ≤ s.hi → {t u : ℕ} → t ≡ start_tile n a → u ≡ end_tile n a → {x y : Float} {p q : Bool}
       → EndOut n es true (end_of_tile n t) x p → EndOut n es false (end_of_tile n u) y q
-      → DoneOut n es a (record { number = 0; place = 0; low = x; high = y; low_open = p; high_open = q; empty = false })
+      → GoesOut n es a (record { low = x; high = y; low_open = p; high_open = q; empty = false })
   ends_out {s} e h {t} {u} i j {x} {y} {p} {q} l r =
       record {
-        number_done = refl;
-        place_done = refl;
-        goes_out =
+        when_empty = λ k. absurd (omega (arith, subst (λ (v : Span). v.hi < v.lo) (sym e) ((kind_empty n f.wide_enough a real.fits).0 k).1));
+        when_not = λ k.
             record {
-              when_empty = λ k. absurd (omega (arith, subst (λ (v : Span). v.hi < v.lo) (sym e) ((kind_empty n f.wide_enough a real.fits).0 k).1));
-              when_not = λ k.
-                  record {
-                    low_end = subst (λ (v : ℕ). EndOut n es true (end_of_tile n v) x p) i l;
-                    high_end = subst (λ (v : ℕ). EndOut n es false (end_of_tile n v) y q) j r;
-                    not_empty = refl;
-                  };
+              low_end = subst (λ (v : ℕ). EndOut n es true (end_of_tile n v) x p) i l;
+              high_end = subst (λ (v : ℕ). EndOut n es false (end_of_tile n v) y q) j r;
+              not_empty = refl;
             };
       }
-
--- ---- the call
-pub nothing_out : {number place : ℕ}
-    → NothingOut (record { number = number; place = place; low = of_bits binary64 0; high = of_bits binary64 0; low_open = false; high_open = false; empty = false })
-nothing_out = record { low_zero = zero_bits; high_zero = zero_bits; low_closed = refl; high_closed = refl; no_mark = refl }
-
-pub given_out : {n es a : ℕ} → verdict_of_range n es a ≡ done → {r : Outgoing} → DoneOut n es a r → GivenOut n es a r
-given_out e d =
-    record {
-      number_is = d.number_done ∙ sym (ap (λ (v : Verdict). v.number) e);
-      place_is = d.place_done ∙ sym (ap (λ (v : Verdict). v.place) e);
-      right = λ z. d.goes_out;
-      refused = λ z. absurd (z (ap (λ (v : Verdict). v.number) e));
-    }
 
 -- ---- the floats that go out are the ends exactly: a fraction is a member where it lies between them, as their marks say
 abbrev pub AfterFloat : Float → Bool → Fraction → Type 0
@@ -181,16 +162,6 @@ empty_same t u =
       empty = t.is_empty ∙ sym u.is_empty;
     }
 
-nothing_same : {r q : Outgoing} → NothingOut r → NothingOut q → SameOut r q
-nothing_same t u =
-    record {
-      low = t.low_zero ∙ sym u.low_zero;
-      high = t.high_zero ∙ sym u.high_zero;
-      low_open = t.low_closed ∙ sym u.low_closed;
-      high_open = t.high_closed ∙ sym u.high_closed;
-      empty = t.no_mark ∙ sym u.no_mark;
-    }
-
 pub record HeldOut (r : Outgoing) : Type 0 where
   pub low_held : T (fits binary64 r.low)
   pub high_held : T (fits binary64 r.high)
@@ -209,13 +180,22 @@ module _ {n es a : ℕ} {r q : Outgoing} (h : HeldOut r) (k : HeldOut q) where
       by (has_cells o l e) = ends_same f (t.when_not o) (u.when_not o)
       by (has_none o i m j l e) = empty_same (t.when_empty o) (u.when_empty o)
 
-  pub one_given_out : GivenOut n es a r → GivenOut n es a q → (r.number ≡ q.number) × (r.place ≡ q.place) × SameOut r q
-  one_given_out t u = (
-    t.number_is ∙ sym u.number_is,
-    t.place_is ∙ sym u.place_is,
-    by (ℕ_discrete (verdict_of_range n es a).number 0),
-  )
-    where
-      by : Dec ((verdict_of_range n es a).number ≡ 0) → SameOut r q
-      by (yes z) = out_same (range_format n es a z) (range_real n es a z) (t.right z) (u.right z)
-      by (no z) = nothing_same (t.refused z) (u.refused z)
+  given_same : GivenOut n es a (Ok r) → GivenOut n es a (Ok q) → SameOut r q
+  given_same t u = out_same (range_format n es a (accepts t.0)) (range_real n es a (accepts t.0)) t.1 u.1
+
+-- ---- two answers of one call are given alike, or refused alike
+abbrev pub Held : Result Outgoing Refusal → Type 0
+Held (Ok r) = HeldOut r
+Held (Err e) = Unit {0}
+
+abbrev pub Alike : Result Outgoing Refusal → Result Outgoing Refusal → Type 0
+Alike (Ok r) (Ok q) = SameOut r q
+Alike (Ok r) (Err e) = ⊥
+Alike (Err e) (Ok q) = ⊥
+Alike (Err d) (Err e) = d ≡ e
+
+pub one_given_out : (n es a : ℕ) (x y : Result Outgoing Refusal) → Held x → Held y → GivenOut n es a x → GivenOut n es a y → Alike x y
+one_given_out n es a (Ok r) (Ok q) h k t u = given_same h k t u
+one_given_out n es a (Ok r) (Err e) h k t u = refuses e u (accepts t.0)
+one_given_out n es a (Err e) (Ok q) h k t u = refuses e t (accepts u.0)
+one_given_out n es a (Err d) (Err e) h k t u = one_refusal d e (sym t ∙ u)

@@ -5,13 +5,11 @@ use mathlib.Core.Bool.{Bool, true, false, not, ◌||◌, true≢false}
 use mathlib.Core.Logic.{◌↔◌}
 use Prim.Native.Nat.{ℕ, ◌-◌, ◌^◌, ◌≤◌}
 use native.Mathlib.Omega.{arith}
-use native.Mathlib.Decide.{ℕ_discrete}
 use lib.Dec.{T}
 use lib.IntN.{pos}
 use lib.Pow.{pow_pos}
-use lib.Ieee.{Float, nan, inf, fin, binary64, lt, ne, fits, is_nan, of_fields, of_bits, to_bits}
+use lib.Ieee.{Float, nan, inf, fin, binary64, lt, fits, is_nan, of_fields, of_bits, to_bits}
 use lib.Ieee.Bits.{of_bits-to_bits}
-use lib.Ieee.Compare.{differs_from_itself}
 use Rattle.exact.specs.Fraction.{Fraction, whole}
 use Rattle.exact.proofs.Order.{≤ᶠ_refl, ≈_sym}
 use Rattle.bound.specs.Order.{dual}
@@ -20,17 +18,19 @@ use Rattle.bound.specs.Extent.{span, Within, from_to, Spans}
 use Rattle.bound.specs.Cell.{start_of_bound, end_of_bound}
 use Rattle.bound.specs.Fractions.{fractions}
 use Rattle.bound.proofs.Extent.{interval_spans, spans_of_same_set}
-use Rattle.posit.specs.Format.{is_format}
+use Rattle.posit.specs.Format.{Format, is_format}
+use Rattle.posit.proofs.Verdicts.{format_clear}
 use Rattle.posit.specs.Decoding.{finite_value}
 use Rattle.posit.specs.Floats.{IsExactly, NoNumber}
 use Rattle.call.specs.Verdict.{Verdict, done}
 use Rattle.posit.specs.Refusal.{format_test}
-use Rattle.posit.proofs.FloatExact.{no_nan}
 use Rattle.posit.proofs.Operated.{zero_value, zero_not_nar}
 use Rattle.posit.proofs.Patterns.{some_bit}
 use Rattle.call.proofs.FirstHit.{hits, passes, none_hits}
 use Rattle.posit.proofs.Verdicts.{format_of}
-use Rattle.word.specs.declared.answer.WordAnswer.{WordAnswer}
+use Rattle.std.specs.Prelude.{Result}
+use Rattle.call.specs.declared.refusal.Refusal.{Refusal}
+use Rattle.call.proofs.Answered as Answered
 use Rattle.reading.specs.declared.reading.Reading.{Reading}
 use Rattle.word.specs.Smallest.{IsAnswer}
 use Rattle.word.specs.Numbered.{count}
@@ -47,18 +47,6 @@ use Rattle.reading.proofs.FloatOrder.{at_most}
 -- ---- NaN and the infinities
 pub is_no_nan : (x : Float) → is_nan x ≡ false → T (not (is_nan x))
 is_no_nan x e = subst (λ (b : Bool). T (not b)) (sym e) tt
-
-pub nan_test : (x : Float) → is_nan x ≡ ne x x
-unfolding is_nan
-nan_test x = go (ne x x) refl
-  where
-    of_not : (b : Bool) → T (not b) → b ≡ false
-    of_not true h = absurd h
-    of_not false h = refl
-
-    go : (b : Bool) → ne x x ≡ b → is_nan x ≡ ne x x
-    go true e = ap is_nan (differs_from_itself x (subst T (sym e) tt)) ∙ sym e
-    go false e = of_not (is_nan x) (no_nan x e) ∙ sym e
 
 abbrev pub infinity_bits : Bool → ℕ
 infinity_bits true = 0xfff0_0000_0000_0000
@@ -117,13 +105,13 @@ module _ (n es : ℕ) (low high : Float) where
   unfolding verdict_of_reading
   reading_outside e = hits (format_test n es) _ (ap not e)
 
-  pub reading_bad : is_format n es ≡ true → bad_reading low high ≡ true → verdict_of_reading n es low high ≡ record { number = 6; place = 0 }
+  pub reading_bad : Format n es → bad_reading low high ≡ true → verdict_of_reading n es low high ≡ record { number = 6; place = 0 }
   unfolding verdict_of_reading
-  reading_bad e b = passes (format_test n es) _ (ap not e) ∙ hits (reading_test low high) _ b
+  reading_bad f b = passes (format_test n es) _ (format_clear f) ∙ hits (reading_test low high) _ b
 
-  pub reading_done : is_format n es ≡ true → bad_reading low high ≡ false → verdict_of_reading n es low high ≡ done
+  pub reading_done : Format n es → bad_reading low high ≡ false → verdict_of_reading n es low high ≡ done
   unfolding verdict_of_reading
-  reading_done e b = passes (format_test n es) _ (ap not e) ∙ passes (reading_test low high) _ b ∙ none_hits
+  reading_done f b = passes (format_test n es) _ (format_clear f) ∙ passes (reading_test low high) _ b ∙ none_hits
 
 -- the two zeros are in order either way, and an infinity on the wrong side is bad, beside itself too
 pub zeros_in_order : (s t : Bool) → bad_reading (fin s 0 (pos 0)) (fin t 0 (pos 0)) ≡ false
@@ -236,10 +224,6 @@ module _ (n es : ℕ) (wide : 3 ≤ n) where
         same = rw (low_is low lo l, high_is high hi high_to_top)
 
 -- ---- a reading has one answer
-same_word : {a b c d e f : ℕ} → a ≡ d → b ≡ e → c ≡ f
-    → ◌≡◌ {A = WordAnswer} (record { number = a; place = b; word = c }) (record { number = d; place = e; word = f })
-same_word p q r = rw (p, q, r)
-
 module _ (n es : ℕ) (x : Reading) where
   done_wide : (verdict_of_reading n es x.low x.high).number ≡ 0 → 3 ≤ n
   done_wide z = by (is_format n es) refl
@@ -248,11 +232,7 @@ module _ (n es : ℕ) (x : Reading) where
       by true e = (format_of {es = es} e).wide_enough
       by false e = absurd (omega (arith, ap (λ (v : Verdict). v.number) (reading_outside n es x.low x.high e)))
 
-  pub one_word_taken_in : {r q : WordAnswer} → TakenIn n es x r → TakenIn n es x q → r ≡ q
-  one_word_taken_in {r} {q} t u =
-      same_word (t.number_is ∙ sym u.number_is) (t.place_is ∙ sym u.place_is)
-      (by (ℕ_discrete (verdict_of_reading n es x.low x.high).number 0))
-    where
-      by : Dec ((verdict_of_reading n es x.low x.high).number ≡ 0) → r.word ≡ q.word
-      by (yes z) = one_answer n es (done_wide z) (t.right z) (u.right z)
-      by (no z) = t.refused z ∙ sym (u.refused z)
+  pub one_word_taken_in : (r q : Result ℕ Refusal) → TakenIn n es x r → TakenIn n es x q → r ≡ q
+  one_word_taken_in =
+      Answered.one_answer (verdict_of_reading n es x.low x.high) (IsAnswer n es (Between x.low x.high))
+      (λ passed v w h k. one_answer n es (done_wide (Answered.accepts passed)) h k)

@@ -1,5 +1,5 @@
 -- Readings: a pair of floats comes in as the smallest range that holds all fractions from low to high, and a range goes out as its two ends.
-use Rattle.std.specs.Prelude.{◌≡◌, Bool, true, false, ◌||◌, [], ◌∷◌, ◌≢◌, ℕ, Float}
+use Rattle.std.specs.Prelude.{◌≡◌, Bool, true, false, ◌||◌, [], ◌∷◌, ◌≢◌, ℕ, Float, Result}
 use Rattle.std.specs.Bool.{beq}
 use Rattle.std.specs.Float.{nan, inf, fin}
 use Rattle.std.specs.Float.Ieee.{lt, is_nan}
@@ -10,7 +10,7 @@ use Rattle.posit.specs.Floats.{plus_zero, ExactFloat}
 use Rattle.call.specs.Number.{wrong_reading}
 use Rattle.call.specs.Verdict.{Verdict, Test, Answers, first_hit}
 use Rattle.posit.specs.Refusal.{format_test}
-use Rattle.word.specs.declared.answer.WordAnswer.{WordAnswer}
+use Rattle.call.specs.declared.refusal.Refusal.{Refusal}
 use Rattle.reading.specs.declared.reading.Reading.{Reading}
 use Rattle.reading.specs.declared.reading.Outgoing.{Outgoing}
 use Rattle.word.specs.Word.{kind, empty, start_of, end_of}
@@ -56,9 +56,8 @@ unfoldable pub verdict_of_reading : ℕ → ℕ → Float → Float → Verdict
 verdict_of_reading n es low high = first_hit (format_test n es ∷ reading_test low high ∷ [])
 
 -- what `take_in` answers
-abbrev pub TakenIn : ℕ → ℕ → Reading → WordAnswer → Type 0
-TakenIn n es x r =
-    Answers (verdict_of_reading n es x.low x.high) r.number r.place (IsAnswer n es (Between x.low x.high) r.word) (r.word ≡ 0)
+abbrev pub TakenIn : ℕ → ℕ → Reading → Result ℕ Refusal → Type 0
+TakenIn n es x r = Answers (verdict_of_reading n es x.low x.high) (IsAnswer n es (Between x.low x.high)) r
 
 -- the cell of a float; what is no number is unbounded
 abbrev pub FloatCell : ℕ → ℕ → ℕ → Float → ℕ → Type 0
@@ -91,20 +90,6 @@ pub record GoesOut (n es a : ℕ) (r : Outgoing) : Type 0 where
   pub when_empty : kind n a ≡ empty → EmptyOut r
   pub when_not : kind n a ≢ empty → EndsOut n es a r
 
--- the same of a call that is done
-pub record DoneOut (n es a : ℕ) (r : Outgoing) : Type 0 where
-  pub number_done : r.number ≡ 0
-  pub place_done : r.place ≡ 0
-  pub goes_out : GoesOut n es a r
-
--- refused: 0.0 twice and all marks unset
-pub record NothingOut (r : Outgoing) : Type 0 where
-  pub low_zero : r.low ≡ plus_zero
-  pub high_zero : r.high ≡ plus_zero
-  pub low_closed : r.low_open ≡ false
-  pub high_closed : r.high_open ≡ false
-  pub no_mark : r.empty ≡ false
-
 -- what `give_out` answers
-abbrev pub GivenOut : ℕ → ℕ → ℕ → Outgoing → Type 0
-GivenOut n es a r = Answers (verdict_of_range n es a) r.number r.place (GoesOut n es a r) (NothingOut r)
+abbrev pub GivenOut : ℕ → ℕ → ℕ → Result Outgoing Refusal → Type 0
+GivenOut n es a r = Answers (verdict_of_range n es a) (GoesOut n es a) r

@@ -1,4 +1,5 @@
 pub mod Limits
+pub mod Chunks
 pub mod Steps
 pub mod Rows
 pub mod ExactRows

@@ -5,11 +5,15 @@ use Prim.Native.Nat.{ℕ, ◌+◌, ◌/◌, ◌%◌, ◌≤◌, ◌<◌}
 use lib.Dec.{eqb, ltb}
 use borrow.Author.Tests.{lt-ltb, le-ltb, eq-eqb, ne_eqb, ltb-false, eqb-true, not-false}
 use Rattle.posit.specs.Format.{is_format}
+use mathlib.Core.List.{[], ◌∷◌}
 use Rattle.posit.proofs.Verdicts.{format_of, format_clear}
+use Rattle.posit.proofs.Formats.{within}
+use Rattle.posit.specs.declared.inner.format.Format as Formats
+use Rattle.posit.specs.Refusal.{format_test}
 use Rattle.sheet.specs.Refusal.{most_inputs, most_steps, step_bytes, size_test}
 use Rattle.sheet.specs.Accepted.{SheetFits}
 use Rattle.sheet.specs.Sheet.{sheet_limits}
-use Rattle.call.proofs.Tests.{Passing, all_pass, one_passes, Refusing, gives_none, one_refuses, head_passes, tail_passes}
+use Rattle.call.proofs.Tests.{Passing, all_pass, one_passes, passing_both, Refusing, gives_none, one_refuses, head_passes, tail_passes}
 use Rattle.call.proofs.Facts.{either_true, either_false}
 
 -- ---- 7 for sheets
@@ -25,6 +29,14 @@ module _ (inputs bytes : ℕ) where
 
   pub size_passes : inputs ≤ most_inputs → bytes / step_bytes ≤ most_steps → bytes % step_bytes ≡ 0 → (size_test inputs bytes).hit ≡ false
   size_passes a b d = rw (le-ltb most_inputs inputs a, le-ltb most_steps (bytes / step_bytes) b, eq-eqb (bytes % step_bytes) 0 d)
+
+-- ---- a format that was found passes its test
+module _ {n es : ℕ} (f : Formats.Format) (is : (n ≡ f.n) × (es ≡ f.es)) where
+  pub format_passed : Passing (format_test n es ∷ [])
+  format_passed = rw (is.0, is.1) (one_passes (format_clear (within f)) all_pass)
+
+  pub size_passed : (inputs bytes : ℕ) → inputs ≤ most_inputs → bytes / step_bytes ≤ most_steps → bytes % step_bytes ≡ 0 → Passing (format_test n es ∷ size_test inputs bytes ∷ [])
+  size_passed inputs bytes a b d = passing_both format_passed (one_passes (size_passes inputs bytes a b d) all_pass)
 
 -- ---- what passes
 pub sheet_refusing : (n es inputs bytes lent : ℕ) → Refusing (sheet_limits n es inputs bytes lent)

@@ -20,7 +20,8 @@ use Rattle.word.specs.Computed.{answer_of}
 use Rattle.word.proofs.Computed.{answer_computed}
 use Rattle.word.proofs.Empty.{empty_answer_iff}
 use Rattle.word.proofs.Sheets.{no_zero_member, result_in_answer}
-use Rattle.call.specs.declared.counted.Counted.{Counted}
+use Rattle.std.specs.Prelude.{Ok}
+use Rattle.call.proofs.Answered.{accepts}
 use Rattle.word.specs.Refusal.{word_tests}
 use Rattle.column.specs.Refusal.{holds_zero}
 use Rattle.sheet.specs.Accepted.{SheetAccepted, rows_before}
@@ -171,12 +172,12 @@ module _ {n es : ℕ} (inputs bytes : List ℕ) (lent : ℕ) (a : SheetAccepted 
   row_empty_exactly k h = empty_answer_iff a.fits.format.wide_enough (row_answered k h)
 
 -- ---- the lent column of a call that is done holds the rows
-module _ (n es : ℕ) (inputs bytes : List ℕ) (before after : List ℕ) (r : Counted)
-    (w : Writes (verdict_of_sheet n es inputs bytes (length before)) 0 (rows_of n es inputs (steps_of bytes)) before after r) (done : r.number ≡ 0) where
+module _ (n es : ℕ) (inputs bytes : List ℕ) (before after : List ℕ) (count : ℕ)
+    (w : Writes (verdict_of_sheet n es inputs bytes (length before)) 0 (rows_of n es inputs (steps_of bytes)) before after (Ok count)) where
   pub accepted : SheetAccepted n es inputs bytes (length before)
-  accepted = (sheet_done_exactly n es inputs bytes (length before)).0 (sym w.number ∙ done)
+  accepted = (sheet_done_exactly n es inputs bytes (length before)).0 (accepts w.count.0)
 
   pub written_row : (row : ℕ) → row < length inputs + length (steps_of bytes) → get_or after (0 + row) 0 ≡ get_or (rows_of n es inputs (steps_of bytes)) row 0
   written_row row h =
       let many = length_rows n es inputs (steps_of bytes) in
-      written_at w (sym w.number ∙ done) (omega (arith, accepted.fits.room, length_steps bytes)) row (omega arith)
+      written_at w (accepts w.count.0) (omega (arith, accepted.fits.room, length_steps bytes)) row (omega arith)

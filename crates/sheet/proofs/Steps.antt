@@ -1,22 +1,21 @@
 -- The steps of a sheet: bytes by threes, the tests and rows of what is left, and rows that stay real ranges.
 use mathlib.Core.Path.{◌≡◌, refl, sym, ap, ◌∙◌, subst}
 use mathlib.Core.Bool.{true, false}
-use mathlib.Core.Logic.{◌≢◌}
 use mathlib.Core.List.{List, [], ◌∷◌, ◌++◌}
-use Prim.Native.Nat.{ℕ, zero, suc, ◌+◌, ◌≤◌, ◌<◌}
+use Prim.Native.Nat.{ℕ, zero, suc, ◌+◌, ◌*◌, ◌/◌, ◌≤◌, ◌<◌}
 use native.Mathlib.Nat.{add-zero, add-suc, suc-add, not-suc-le-zero, le_of_suc-le-suc}
 use native.Mathlib.Numerals.{add-one}
 use native.Mathlib.Omega.{arith}
 use lib.Dec.{leb}
-use lib.ListN.{length, get_or, take, drop, set, drop_of_length-le, length-append}
-use lib.Seq.{drop-cons, take-suc-set, get_or-take}
+use lib.ListN.{length, get_or, drop, drop_of_length-le, length-append}
+use lib.Seq.{drop-cons, get_or-drop, get_or-take}
 use borrow.Author.Tests.{leb-false, ltb-false, le-ltb, le-leb, lt-leb}
+use Rattle.std.specs.Simd.{first_chunks}
 use Rattle.posit.specs.Format.{Format}
-use Rattle.call.specs.Verdict.{Test, first_hit, done, Says}
+use Rattle.call.specs.Verdict.{Test, first_hit, done, refused}
 use Rattle.call.proofs.FirstHit.{none_hits}
-use Rattle.call.specs.declared.judged.Judged.{Judged}
+use Rattle.call.specs.declared.refusal.Refusal.{Refusal}
 use Rattle.word.specs.Member.{Real}
-use Rattle.word.specs.Computed.{answer_of}
 use Rattle.word.proofs.Computed.{answer_real}
 use Rattle.word.specs.Refusal.{word_tests}
 use Rattle.sheet.specs.Refusal.{earlier_test}
@@ -26,9 +25,10 @@ use Rattle.sheet.specs.Working.{Reals}
 use Rattle.call.proofs.Tests.{Passing, all_pass, one_passes, Refusing, gives_none, one_refuses, gives_both, passing_parts, passing_skips, head_passes, tail_passes}
 use Rattle.call.proofs.Blocks.{joined, joined_same}
 use Rattle.column.proofs.Pairs.{divisor_clear, divisor_clears}
-use Rattle.call.proofs.Said.{says_by, says_first}
+use Rattle.call.proofs.Said.{refused_first}
 use Rattle.word.proofs.WordTests.{word_refusing, passing_real}
 use Rattle.call.proofs.Facts.{either_true, either_false}
+use Rattle.sheet.proofs.Chunks.{chunk_at}
 
 -- ---- inputs
 module _ (n : ℕ) where
@@ -114,15 +114,34 @@ row_real {n} {es} {s = s} f fit = answer_real n es s.operation _ _ f.wide_enough
 byte_next : (bytes : List ℕ) (at : ℕ) {next : ℕ} → at < length bytes → suc at ≡ next → drop at bytes ≡ get_or bytes at 0 ∷ drop next bytes
 byte_next bytes at h e = subst (λ (k : ℕ). drop at bytes ≡ get_or bytes at 0 ∷ drop k bytes) e (drop-cons bytes at 0 h)
 
-pub steps_next : (at : ℕ) (bytes : List ℕ) → at + 2 < length bytes
+bytes_next : (at : ℕ) (bytes : List ℕ) → at + 2 < length bytes
     → steps_of (drop at bytes) ≡ record { operation = get_or bytes at 0; left = get_or bytes (at + 1) 0; right = get_or bytes (at + 2) 0 } ∷ steps_of (drop (at + 3) bytes)
 unfolding steps_of
-steps_next at bytes h =
+bytes_next at bytes h =
     ap steps_of
     (byte_next bytes at {next = at + 1} (omega arith) (omega arith)
     ∙ ap (λ (l : List ℕ). get_or bytes at 0 ∷ l)
     (byte_next bytes (at + 1) {next = at + 2} (omega arith) (omega arith)
     ∙ ap (λ (l : List ℕ). get_or bytes (at + 1) 0 ∷ l) (byte_next bytes (at + 2) {next = at + 3} h (omega arith))))
+
+-- the step of three bytes
+abbrev pub step_of : List ℕ → Step
+step_of triple = record { operation = get_or triple 0 0; left = get_or triple 1 0; right = get_or triple 2 0 }
+
+step_at : (k : ℕ) (bytes : List ℕ) → k < length bytes / 3
+    → step_of (get_or (first_chunks 3 (length bytes / 3) bytes) k []) ≡ record { operation = get_or bytes (3 * k) 0; left = get_or bytes (3 * k + 1) 0; right = get_or bytes (3 * k + 2) 0 }
+step_at k bytes h =
+    let byte = λ (i : ℕ) (b : i < 3). get_or-take 3 (drop (3 * k) bytes) i 0 b ∙ get_or-drop (3 * k) bytes i 0 in
+    rw (chunk_at 3 k (length bytes / 3) bytes h, byte 0 (omega arith), byte 1 (omega arith), byte 2 (omega arith), add-zero)
+
+pub steps_next : (k : ℕ) (bytes : List ℕ) → k < length bytes / 3
+    → steps_of (drop (3 * k) bytes) ≡ step_of (get_or (first_chunks 3 (length bytes / 3) bytes) k []) ∷ steps_of (drop (3 * (k + 1)) bytes)
+steps_next k bytes h =
+    let there : 3 * k + 2 < length bytes = omega arith in
+    let more : 3 * k + 3 ≡ 3 * (k + 1) = omega arith in
+    bytes_next (3 * k) bytes there
+    ∙ ap (λ (j : ℕ). record { operation = get_or bytes (3 * k) 0; left = get_or bytes (3 * k + 1) 0; right = get_or bytes (3 * k + 2) 0 } ∷ steps_of (drop j bytes)) more
+    ∙ ap (λ (s : Step). s ∷ steps_of (drop (3 * (k + 1)) bytes)) (sym (step_at k bytes h))
 
 pub steps_end : (at : ℕ) (bytes : List ℕ) → length bytes ≤ at → steps_of (drop at bytes) ≡ []
 unfolding steps_of
@@ -148,17 +167,11 @@ module _ {n es : ℕ} {start : List ℕ} {all : List Step} where
         real = reals_more rows w.real (row_real {rows = rows} {s = s} f (step_fits {n = n} {es = es} {rows = rows} {s = s} p));
       }
 
-  pub working_refused : {rows : List ℕ} {s : Step} {left : List Step} {j : Judged} → Working n es start all rows (s ∷ left)
-      → Says (first_hit (step_tests n es rows s)) j → j.number ≢ 0 → Says (first_hit (steps_tests n es start all)) j
+  pub working_refused : {rows : List ℕ} {s : Step} {left : List Step} (e : Refusal) → Working n es start all rows (s ∷ left)
+      → first_hit (step_tests n es rows s) ≡ refused e → first_hit (steps_tests n es start all) ≡ refused e
   unfolding steps_tests
-  working_refused {rows} {s} {left} w v d = says_by w.verdict (says_first (step_tests n es rows s) (steps_tests n es (with_row n es rows s) left) v d)
+  working_refused {rows} {s} {left} e w v = w.verdict ∙ refused_first (step_tests n es rows s) (steps_tests n es (with_row n es rows s) left) e v
 
   pub working_all : {rows : List ℕ} → Working n es start all rows [] → (first_hit (steps_tests n es start all) ≡ done) × (rows_of n es start all ≡ rows)
   unfolding steps_tests rows_of
   working_all w = (w.verdict ∙ none_hits, w.rows_come)
-
--- ---- a row put behind the rows so far
-module _ (n es : ℕ) (rows : List ℕ) {row : ℕ} (s : Step) (h : row < length rows) (left : s.left < row) (right : s.right < row) where
-  pub row_put : {v : ℕ} → v ≡ answer_of n es s.operation (get_or rows s.left 0) (get_or rows s.right 0)
-      → take (row + 1) (set rows row v) ≡ with_row n es (take row rows) s
-  row_put {v} e = rw (add-one row, take-suc-set rows row v h, e, get_or-take row rows s.left 0 left, get_or-take row rows s.right 0 right)

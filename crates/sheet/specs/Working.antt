@@ -1,16 +1,22 @@
--- The inner promises of a sheet's work: rows that are real ranges, and what working the steps comes to.
-use Rattle.std.specs.Prelude.{◌≡◌, List, ℕ, ◌+◌, ◌/◌, ◌<◌, length, take, get_or}
-use Rattle.call.specs.Verdict.{first_hit}
+-- The inner promises of a sheet's work: its format and operations, rows that are real ranges, and the rows that its steps come to.
+use Rattle.std.specs.Prelude.{◌≡◌, List, ℕ, ◌<◌, length, get_or}
+use Rattle.call.specs.declared.operation.Operation.{Operation}
+use Rattle.call.specs.Operation.{number_of}
+use Rattle.posit.specs.declared.inner.format.Format.{Format}
 use Rattle.word.specs.Member.{Real}
-use Rattle.sheet.specs.declared.inner.steps.Worked.{Worked}
-use Rattle.sheet.specs.Refusal.{step_bytes}
-use Rattle.sheet.specs.Sheet.{steps_of, rows_of, steps_tests}
+use Rattle.sheet.specs.Sheet.{steps_of, rows_of}
+
+-- the format of n and es
+abbrev pub IsOf : ℕ → ℕ → Format → Type 0
+IsOf n es f = (n ≡ f.n) × (es ≡ f.es)
+
+-- the operation of a number
+abbrev pub IsOperation : ℕ → Operation → Type 0
+IsOperation op o = op ≡ number_of o
 
 abbrev pub Reals : ℕ → List ℕ → Type 0
 Reals n ws = (row : ℕ) → row < length ws → Real n (get_or ws row 0)
 
-pub record StepsWorked (n es : ℕ) (inputs bytes : List ℕ) (r : Worked) : Type 0 where
-  pub as_many : length r.rows ≡ 96
-  pub number : r.number ≡ (first_hit (steps_tests n es inputs (steps_of bytes))).number
-  pub place : r.place ≡ (first_hit (steps_tests n es inputs (steps_of bytes))).place
-  pub rows : r.number ≡ 0 → take (length inputs + length bytes / step_bytes) r.rows ≡ rows_of n es inputs (steps_of bytes)
+-- all rows of a sheet with these first rows and bytes of steps; what a call answers beside them is nothing
+abbrev pub AreRows : ℕ → ℕ → List ℕ → List ℕ → List ℕ → Unit {0} → Type 0
+AreRows n es first bytes rows answer = rows ≡ rows_of n es first (steps_of bytes)

@@ -15,7 +15,8 @@ use Rattle.posit.specs.Value.{value}
 use Rattle.word.specs.Numbered.{count}
 use Rattle.word.specs.Computed.{cell_of}
 use Rattle.word.specs.Spans.{top_cell}
-use Rattle.signs.specs.Signs.{pick_cell, Edge, first_cell, last_cell}
+use Rattle.signs.specs.declared.inner.edge.Edge.{Edge}
+use Rattle.signs.specs.Signs.{pick_cell, first_cell, last_cell}
 use Rattle.cell.specs.Cells.{result_of}
 use Rattle.word.proofs.Places.{top_cell_says}
 use Rattle.cell.proofs.ZeroCell.{even, cell_of_zero}

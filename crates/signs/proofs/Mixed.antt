@@ -5,7 +5,7 @@ use mathlib.Core.Bool.{Bool, true, false, ◌&&◌, ◌||◌, and_comm, or_comm}
 use Prim.Native.Nat.{ℕ, ◌+◌, ◌-◌, ◌*◌, ◌/◌, ◌^◌, ◌≤◌, ◌<◌}
 use native.Mathlib.Omega.{arith}
 use lib.Dec.{ltb, leb}
-use borrow.Author.Tests.{lt-ltb, le-ltb, le-leb, lt-leb, eqb-false, ltb-true, leb-true}
+use borrow.Author.Tests.{lt-ltb, le-ltb, le-leb, lt-leb, ltb-true, leb-true}
 use Rattle.exact.specs.Fraction.{◌*ᶠ◌, ◌/ᶠ◌}
 use Rattle.exact.proofs.Product.{*ᶠ_comm, product_above_above}
 use Rattle.exact.proofs.Quotient.{quotient_above_above}
@@ -15,7 +15,8 @@ use Rattle.posit.specs.Value.{value}
 use Rattle.posit.proofs.Ends.{value_positive}
 use Rattle.word.specs.declared.inner.span.Span.{Span}
 use Rattle.word.specs.Spans.{top_cell, mirrored, RealCells}
-use Rattle.signs.specs.Signs.{pick_cell, pick_span, Edge, start_edge, end_edge, CellAbove, last_cell, part_above, positive_some, positive_results, hull_of, turned_cells, either_sign, signed_results, has_zero, has_other, zero_if, product_cells, quotient_cells}
+use Rattle.signs.specs.declared.inner.edge.Edge.{Edge}
+use Rattle.signs.specs.Signs.{pick_cell, pick_span, start_edge, end_edge, first_edge, last_edge, CellAbove, EdgeAbove, last_cell, part_above, positive_some, positive_results, hull_of, turned_cells, either_sign, signed_results, has_zero, has_other, zero_if, product_cells, quotient_cells, result_cells}
 use Rattle.cell.specs.Cells.{zero_cell, result_cell}
 use Rattle.signs.specs.OneSign.{is_above, has_one_sign, OneSign, magnitudes}
 use Rattle.signs.specs.Mixed.{is_mixed, is_mixed_by, Mixed, around}
@@ -25,7 +26,7 @@ use Rattle.word.proofs.Computed.{cell_computed}
 use Rattle.cell.proofs.CellFrom.{cell_same}
 use Rattle.cell.proofs.ZeroCell.{even, above_zero}
 use Rattle.word.proofs.Mirrored.{mirrored_some}
-use Rattle.signs.proofs.ReachedCells.{start_limit, end_limit, first_above, last_above_says, hull_cells, zero_cells, some_cells, signed_cells, both_parts, start_unlimited, first_no_left, some_turned}
+use Rattle.signs.proofs.ReachedCells.{end_positive, last_positive, first_above, last_above_says, hull_cells, zero_cells, some_cells, signed_cells, both_parts, start_unlimited, first_no_left, some_turned}
 use Rattle.signs.proofs.OneSigned.{Side, above, below, side, same_span, above_magnitudes, below_magnitudes, some_magnitudes, magnitudes_above, above_part, above_none, below_none, below_part, no_zero, hull_none, with_right, left_above, left_below, right_above, right_below, zero_left, zero_right, first_of_two, second_of}
 
 module _ (n : ℕ) (wide : 3 ≤ n) where
@@ -89,15 +90,6 @@ module _ (n : ℕ) (wide : 3 ≤ n) where
       go (below e l) = rw (lt-leb (2 ^ n) s.hi (omega (arith, l)), lt-ltb s.lo (zero_cell n) (omega (arith, l, o.some)))
 
   -- ---- the last of some results lies above 0
-  abbrev AboveZero : Edge → Type 0
-  AboveZero e = e.unlimited ≡ false → (0 < e.posit) × (e.posit < nar n)
-
-  start_positive : {c : ℕ} → CellAbove n c → AboveZero (start_edge n c)
-  start_positive {c} a e = start_limit n wide a refl (eqb-false c (2 ^ n) e)
-
-  end_positive : {c : ℕ} → CellAbove n c → AboveZero (end_edge n c)
-  end_positive {c} a e = end_limit n wide a refl (eqb-false c (top_cell n) e)
-
   module _ (es : ℕ) where
     result_above : (divide : Bool) (p q : ℕ) → (0 < p) × (p < nar n) → (0 < q) × (q < nar n) → 2 ^ n ≤ result_cell n es divide p q
     result_above true p q (a, b) (c, d) =
@@ -113,7 +105,7 @@ module _ (n : ℕ) (wide : 3 ≤ n) where
     last_picked false false true c h = h refl refl
     last_picked false false false c h = let l = h refl refl in omega (arith, l, even n es wide)
 
-    last_above_zero : (divide : Bool) (x y : Edge) → AboveZero x → AboveZero y → 2 ^ n ≤ last_cell n es divide x y
+    last_above_zero : (divide : Bool) (x y : Edge) → EdgeAbove n x → EdgeAbove n y → 2 ^ n ≤ last_cell n es divide x y
     last_above_zero divide x y f g =
         last_picked x.unlimited y.unlimited (x.closed && y.closed) (result_cell n es divide x.posit y.posit)
         (λ h k. result_above divide x.posit y.posit (f h) (g k))
@@ -123,8 +115,7 @@ module _ (n : ℕ) (wide : 3 ≤ n) where
     last_of divide c q = (positive_some n es divide (up_to c) q).hi
 
     next_to_zero : (divide : Bool) (c : ℕ) (q : Span) → up_to (last_of divide c q) ≡ positive_some n es divide (up_to c) q
-    next_to_zero true c q = same_span (first_no_left n es true (start_edge n (2 ^ n)) (end_edge n q.hi) refl (start_unlimited n (2 ^ n) refl refl)) refl
-    next_to_zero false c q = same_span (first_no_left n es false (start_edge n (2 ^ n)) (start_edge n q.lo) refl (start_unlimited n (2 ^ n) refl refl)) refl
+    next_to_zero divide c q = same_span (first_no_left n es divide (start_edge n (2 ^ n)) (first_edge n divide q) refl (start_unlimited n (2 ^ n) refl refl)) refl
 
     -- ---- products in the other order
     result_swapped : (p q : ℕ) → result_cell n es false p q ≡ result_cell n es false q p
@@ -151,8 +142,8 @@ module _ (n : ℕ) (wide : 3 ≤ n) where
       far_above = last_above_says n wide (magnitudes_above n wide b) (some_magnitudes n wide b)
 
       last_above_of : (divide : Bool) {c : ℕ} → CellAbove n c → 2 ^ n ≤ last_of divide c sizes
-      last_above_of true {c} a = last_above_zero true (end_edge n c) (start_edge n sizes.lo) (end_positive a) (start_positive near_above)
-      last_above_of false {c} a = last_above_zero false (end_edge n c) (end_edge n sizes.hi) (end_positive a) (end_positive far_above)
+      last_above_of divide {c} a =
+          last_above_zero divide (end_edge n c) (last_edge n divide sizes) (end_positive n wide a) (last_positive n wide divide near_above far_above)
 
       last_there : (divide : Bool) {c : ℕ} → CellAbove n c → CellAbove n (last_of divide c sizes)
       last_there divide {c} a = record { above = last_above_of divide a; there = (some_cells n wide es divide (up_to c) sizes).high_there }
@@ -243,6 +234,10 @@ module _ (n : ℕ) (wide : 3 ≤ n) where
             sym (ap (hull_of (hull_of (signed_results n es false x y) (zero_if n (has_zero n x) (has_other n y)))) (zero_right n wide (leb x.lo x.hi) (no_zero n wide b))
             ∙ hull_none n wide (hull_cells n wide (signed_cells n wide es false x y) (zero_cells n wide (has_zero n x) (has_other n y))) ∙ by_signs_around false)
 
+        pub mixed_results : (divide : Bool) → both divide ≡ result_cells n es divide x y
+        mixed_results true = mixed_quotients
+        mixed_results false = mixed_products
+
         pub products_either_way : product_cells n es x y ≡ product_cells n es y x
         products_either_way =
             sym mixed_products
@@ -250,28 +245,6 @@ module _ (n : ℕ) (wide : 3 ≤ n) where
             (ap (hull_of (signed_results n es false y x)) (zero_left n wide (has_other n x) (no_zero n wide b)) ∙ hull_none n wide (signed_cells n wide es false y x)
             ∙ swapped_around)
             (ap₂ (zero_if n) (le-leb y.lo y.hi b.some) (mixed_zero a)) ∙ around_zero false)
-
-  -- ---- the stages of the machine functions
-  module _ (es : ℕ) (y : Span) {m : Span} (f : m ≡ magnitudes n y) {c d r : ℕ} (e : c ≡ d) where
-    pub last_product : r ≡ last_cell n es false (end_edge n c) (end_edge n m.hi) → r ≡ last_of es false d (magnitudes n y)
-    last_product h = h ∙ ap₂ (λ k s. last_cell n es false (end_edge n k) (end_edge n s.hi)) e f
-
-    pub last_quotient : r ≡ last_cell n es true (end_edge n c) (start_edge n m.lo) → r ≡ last_of es true d (magnitudes n y)
-    last_quotient h = h ∙ ap₂ (λ k s. last_cell n es true (end_edge n k) (start_edge n s.lo)) e f
-
-module _ (n : ℕ) (s : Span) {z : ℕ} (e : z ≡ 2 ^ n) where
-  pub mixed_if_below : z ≤ s.hi → ltb s.lo (z - 1) ≡ is_mixed n s
-  mixed_if_below h = rw (e, le-leb (2 ^ n) s.hi (omega (arith, e, h)))
-
-  pub nothing_above : s.hi < z → leb z s.hi ≡ is_mixed n s
-  nothing_above h = rw (e, lt-leb (2 ^ n) s.hi (omega (arith, e, h)))
-
-module _ (n : ℕ) (y : Span) (v u : ℕ) {t : ℕ} (e : t ≡ top_cell n) {p : Bool} (f : p ≡ is_above n y) where
-  pub around_by_above : p ≡ true → record { lo = t - v; hi = u } ≡ around n y v u
-  around_by_above h = rw (e, ← f, h)
-
-  pub around_by_below : p ≡ false → record { lo = t - u; hi = v } ≡ around n y v u
-  around_by_below h = rw (e, ← f, h)
 
 module _ (n : ℕ) (x y : Span) {r : Bool} (h : r ≡ is_mixed_by n x y) (t : r ≡ true) where
   pub mixed_left : RealCells n x → Mixed n x

@@ -7,8 +7,8 @@ use lib.Dec.{ltb, leb}
 use lib.Pow.{pow_pos}
 use borrow.Author.Tests.{lt-ltb, le-ltb, le-leb, lt-leb, leb-true, ltb-true}
 use Rattle.word.specs.declared.inner.span.Span.{Span}
-use Rattle.word.specs.Spans.{top_cell, no_cells, mirrored, Cells, RealCells}
-use Rattle.signs.specs.Signs.{pick_span, is_none, part_above, PartAbove, positive_some, positive_results, hull_of, turned_cells, either_sign, signed_results, has_zero, has_other, zero_if, product_cells, quotient_cells}
+use Rattle.word.specs.Spans.{top_cell, no_cells, mirrored, Cells}
+use Rattle.signs.specs.Signs.{pick_span, is_none, part_above, PartAbove, positive_some, positive_results, hull_of, turned_cells, either_sign, signed_results, has_zero, has_other, zero_if, product_cells, quotient_cells, result_cells}
 use Rattle.cell.specs.Cells.{zero_cell}
 use Rattle.signs.specs.OneSign.{is_above, has_one_sign, OneSign, magnitudes, with_signs}
 use Rattle.word.proofs.Places.{top_cell_says}
@@ -196,13 +196,11 @@ module _ (n : ℕ) (wide : 3 ≤ n) where
         (zero_right (leb x.lo x.hi) (no_zero b))
         ∙ hull_none (signed_cells n wide es false x y))
 
--- ---- the tests of the machine functions
-pub both_hold : {p q r s : Bool} → r ≡ p → r ≡ true → s ≡ q → s ≡ (p && q)
-both_hold {q = q} e t h = h ∙ ap (λ b. b && q) (sym t ∙ e)
+    pub results_of_magnitudes : (divide : Bool) → with_signs n x y (positive_some n es divide (magnitudes n x) (magnitudes n y)) ≡ result_cells n es divide x y
+    results_of_magnitudes true = quotients_of_magnitudes
+    results_of_magnitudes false = products_of_magnitudes
 
-pub first_fails : {p r : Bool} (q : Bool) → r ≡ p → r ≡ false → r ≡ (p && q)
-first_fails q e f = f ∙ ap (λ b. b && q) (sym f ∙ e)
-
+-- ---- both halves of a test that holds
 pub first_of_two : (p q : Bool) → (p && q) ≡ true → p ≡ true
 first_of_two true q e = refl
 first_of_two false q e = e
@@ -210,17 +208,3 @@ first_of_two false q e = e
 pub second_of : (p q : Bool) → (p && q) ≡ true → q ≡ true
 second_of true q e = e
 second_of false q e = absurd (true≢false (sym e))
-
-module _ (n : ℕ) (x y : Span) {r : Bool} (h : r ≡ (has_one_sign n x && has_one_sign n y)) (t : r ≡ true) where
-  pub left_one_sign : RealCells n x → x.lo ≤ x.hi → OneSign n x
-  left_one_sign c l = record { there = c.there.high_there; some = l; one_sign = first_of_two (has_one_sign n x) (has_one_sign n y) (sym h ∙ t) }
-
-  pub right_one_sign : RealCells n y → y.lo ≤ y.hi → OneSign n y
-  right_one_sign c l = record { there = c.there.high_there; some = l; one_sign = second_of (has_one_sign n x) (has_one_sign n y) (sym h ∙ t) }
-
-module _ (n : ℕ) (x y s : Span) {p q : Bool} (e : p ≡ is_above n x) (f : q ≡ is_above n y) where
-  pub signs_agree : beq p q ≡ true → s ≡ with_signs n x y s
-  signs_agree h = ap (λ (b : Bool). pick_span b s (turned_cells n s)) (sym h ∙ ap₂ beq e f)
-
-  pub signs_differ : beq p q ≡ false → {r : Span} → r ≡ turned_cells n s → r ≡ with_signs n x y s
-  signs_differ h k = k ∙ ap (λ (b : Bool). pick_span b s (turned_cells n s)) (sym h ∙ ap₂ beq e f)

@@ -1,12 +1,12 @@
 -- All cells that are computed for products and quotients are cells of the format, and a limit above 0 is a posit above 0.
-use mathlib.Core.Path.{◌≡◌, sym, ◌∙◌}
+use mathlib.Core.Path.{◌≡◌, refl, sym, ◌∙◌}
 use mathlib.Core.Bool.{Bool, true, false, ◌&&◌, ◌||◌}
 use mathlib.Core.Logic.{◌⊎◌, inl, inr}
-use Prim.Native.Nat.{ℕ, ◌+◌, ◌-◌, ◌*◌, ◌/◌, ◌%◌, ◌^◌, ◌≤◌, ◌<◌, max}
+use Prim.Native.Nat.{ℕ, ◌+◌, ◌-◌, ◌*◌, ◌/◌, ◌%◌, ◌^◌, ◌≤◌, ◌<◌}
 use native.Mathlib.Omega.{arith}
 use native.Mathlib.Decide.{dec_le}
-use lib.Dec.{eqb, ltb, leb}
-use borrow.Author.Tests.{eq-eqb, ne_eqb, lt-ltb, le-ltb, le-leb, lt-leb}
+use lib.Dec.{eqb}
+use borrow.Author.Tests.{eq-eqb, ne_eqb, eqb-false, lt-ltb, le-ltb}
 use Rattle.posit.specs.Format.{nar}
 use Rattle.posit.specs.Value.{value}
 use Rattle.posit.specs.Parts.{chosen_by}
@@ -15,10 +15,10 @@ use Rattle.posit.proofs.Patterns.{some_bit}
 use Rattle.word.specs.declared.inner.span.Span.{Span}
 use Rattle.word.specs.Numbered.{count, pattern_at}
 use Rattle.word.specs.Spans.{top_cell, no_cells, mirrored, Cells}
-use Rattle.signs.specs.Signs.{pick_cell, pick_span, Edge, start_edge, end_edge, CellAbove, first_cell, last_cell, is_none, part_above, PartAbove, positive_some, positive_results, hull_of, turned_cells, either_sign, signed_results, has_zero, has_other, zero_if}
-use Rattle.cell.specs.Cells.{zero_cell, result_of, result_cell}
-use Rattle.signs.specs.OneSign.{has_one_sign}
-use Rattle.word.proofs.Grid.{half, nar_positive, pattern_high}
+use Rattle.signs.specs.declared.inner.edge.Edge.{Edge}
+use Rattle.signs.specs.Signs.{pick_cell, pick_span, start_edge, end_edge, first_edge, last_edge, CellAbove, EdgeAbove, first_cell, last_cell, is_none, part_above, PartAbove, positive_some, positive_results, hull_of, turned_cells, either_sign, signed_results, zero_if}
+use Rattle.cell.specs.Cells.{result_of, result_cell}
+use Rattle.word.proofs.Grid.{half, once_over, nar_positive, pattern_high}
 use Rattle.word.proofs.Places.{top_cell_says}
 use Rattle.word.proofs.Mirrored.{mirrored_some, mirrored_none}
 use Rattle.cell.proofs.CellFrom.{cell_bounded}
@@ -43,9 +43,28 @@ module _ (n : ℕ) (wide : 3 ≤ n) where
       let some = nar_positive n (some_bit n wide) in
       omega (arith, pattern_high n (some_bit n wide) ((c - 1) / 2) (omega (arith, even, h)) (omega (arith, top_cell_says n wide, some, even, l)), some, even, h)
 
+  pub end_counted : {c : ℕ} → CellAbove n c → (c + 2 - 2 ^ n) / 2 ≡ (end_edge n c).posit
+  end_counted {c} a =
+      let even = half n (some_bit n wide) in
+      omega (arith, once_over {x = c / 2 + nar n + 1} {m = 2 ^ n} (omega (arith, even, a.above)) (omega (arith, top_cell_says n wide, a.there, nar_positive n (some_bit n wide), even)), even)
+
   pub end_by_count : {c : ℕ} → 2 ^ n ≤ c → c < top_cell n → (c + 2 - 2 ^ n) / 2 ≡ (end_edge n c).posit
-  end_by_count {c} h l =
-      omega (arith, pattern_high n (some_bit n wide) (c / 2) (omega (arith, half n (some_bit n wide), h)) (omega (arith, top_cell_says n wide, l)), half n (some_bit n wide))
+  end_by_count {c} h l = end_counted {c = c} (record { above = h; there = omega (arith, l) })
+
+  -- a limit of a part that has members is a posit above 0
+  pub start_positive : {c : ℕ} → CellAbove n c → EdgeAbove n (start_edge n c)
+  start_positive {c} a e = start_limit a refl (eqb-false c (2 ^ n) e)
+
+  pub end_positive : {c : ℕ} → CellAbove n c → EdgeAbove n (end_edge n c)
+  end_positive {c} a e = end_limit a refl (eqb-false c (top_cell n) e)
+
+  pub first_positive : (divide : Bool) {q : Span} → CellAbove n q.lo → CellAbove n q.hi → EdgeAbove n (first_edge n divide q)
+  first_positive true a b = end_positive b
+  first_positive false a b = start_positive a
+
+  pub last_positive : (divide : Bool) {q : Span} → CellAbove n q.lo → CellAbove n q.hi → EdgeAbove n (last_edge n divide q)
+  last_positive true a b = start_positive a
+  last_positive false a b = end_positive b
 
   -- ---- parts
   pub first_above : {p : Span} → PartAbove n p → p.lo ≤ top_cell n → CellAbove n p.lo
@@ -117,19 +136,17 @@ module _ (n : ℕ) (wide : 3 ≤ n) where
         first_picked (x.unlimited || y.unlimited) (x.closed && y.closed) (result_cell n es divide x.posit y.posit)
         (cell_bounded n es wide (result_of divide (value n es x.posit) (value n es y.posit)))
 
-    last_there : (divide : Bool) (x y : Edge) → last_cell n es divide x y ≤ top_cell n
+    pub last_there : (divide : Bool) (x y : Edge) → last_cell n es divide x y ≤ top_cell n
     last_there divide x y =
         last_picked (x.unlimited || y.unlimited) (x.closed && y.closed) (result_cell n es divide x.posit y.posit)
         (cell_bounded n es wide (result_of divide (value n es x.posit) (value n es y.posit)))
 
     -- the first cell of some results is there
     pub some_first : (divide : Bool) (p q : Span) → (positive_some n es divide p q).lo ≤ top_cell n
-    some_first true p q = first_there true (start_edge n p.lo) (end_edge n q.hi)
-    some_first false p q = first_there false (start_edge n p.lo) (start_edge n q.lo)
+    some_first divide p q = first_there divide (start_edge n p.lo) (first_edge n divide q)
 
     some_last : (divide : Bool) (p q : Span) → (positive_some n es divide p q).hi ≤ top_cell n
-    some_last true p q = last_there true (end_edge n p.hi) (start_edge n q.lo)
-    some_last false p q = last_there false (end_edge n p.hi) (end_edge n q.hi)
+    some_last divide p q = last_there divide (end_edge n p.hi) (last_edge n divide q)
 
     pub some_cells : (divide : Bool) (p q : Span) → Cells n (positive_some n es divide p q)
     some_cells divide p q = record { low_there = omega (arith, some_first divide p q); high_there = some_last divide p q }
@@ -149,7 +166,7 @@ module _ (n : ℕ) (wide : 3 ≤ n) where
         hull_cells (either_cells divide (part_above n a) (part_above n b) (part_above n (mirrored n b)))
         (turned_cells_says (either_sign n es divide (part_above n (mirrored n a)) (part_above n b) (part_above n (mirrored n b))))
 
--- ---- the tests of the machine functions
+-- ---- the results by the tests of a machine function
 module _ (n c : ℕ) {z : ℕ} where
   pub start_unlimited : z ≡ 2 ^ n → c ≡ z → (start_edge n c).unlimited ≡ true
   start_unlimited e h = eq-eqb c (2 ^ n) (h ∙ e)
@@ -157,22 +174,10 @@ module _ (n c : ℕ) {z : ℕ} where
   pub start_limited : z ≡ 2 ^ n → (c ≡ z → ⊥) → (start_edge n c).unlimited ≡ false
   start_limited e h = ne_eqb c (2 ^ n) (λ k. h (k ∙ sym e))
 
-  pub end_unlimited : z ≡ top_cell n → c ≡ z → (end_edge n c).unlimited ≡ true
-  end_unlimited e h = eq-eqb c (top_cell n) (h ∙ e)
-
   pub end_limited : z ≡ top_cell n → (c ≡ z → ⊥) → (end_edge n c).unlimited ≡ false
   end_limited e h = ne_eqb c (top_cell n) (λ k. h (k ∙ sym e))
 
--- two marks are one, and their product chooses as both tests do
-pub marks_small : (a b : ℕ) → a % 2 * (b % 2) ≤ 1
-marks_small a b = go (parity a) (parity b)
-  where
-    go : (a % 2 ≡ 0) ⊎ (a % 2 ≡ 1) → (b % 2 ≡ 0) ⊎ (b % 2 ≡ 1) → a % 2 * (b % 2) ≤ 1
-    go (inl e) (inl f) = rw (e, f) (omega arith)
-    go (inl e) (inr f) = rw (e, f) (omega arith)
-    go (inr e) (inl f) = rw (e, f) (omega arith)
-    go (inr e) (inr f) = rw (e, f) (omega arith)
-
+-- the product of two marks chooses as both tests do
 by_marks : (a b s t : ℕ) → chosen_by (a % 2 * (b % 2)) s t ≡ pick_cell (eqb (a % 2) 1 && eqb (b % 2) 1) t s
 by_marks a b s t = go (parity a) (parity b)
   where
@@ -189,9 +194,6 @@ module _ (n es : ℕ) (divide : Bool) (x y : Edge) {r : ℕ} where
   pub first_no_right : r ≡ 2 ^ n → x.unlimited ≡ false → y.unlimited ≡ true → r ≡ first_cell n es divide x y
   first_no_right h e f = rw (e, f) h
 
-  pub last_no_left : r ≡ top_cell n → x.unlimited ≡ true → r ≡ last_cell n es divide x y
-  last_no_left h e = rw e h
-
   pub last_no_right : r ≡ top_cell n → x.unlimited ≡ false → y.unlimited ≡ true → r ≡ last_cell n es divide x y
   last_no_right h e f = rw (e, f) h
 
@@ -204,61 +206,10 @@ module _ (n es : ℕ) (divide : Bool) (x y : Edge) {r : ℕ} where
     last_limited k = rw (e, f, i, j, ← h) (k ∙ by_marks a b (2 * (c / 2)) c)
 
 module _ (n es : ℕ) (divide : Bool) (p q : Span) {r : Span} where
-  pub no_left_part : r ≡ no_cells n → top_cell n < p.lo → r ≡ positive_results n es divide p q
-  no_left_part h l = rw (lt-ltb (top_cell n) p.lo l) h
-
-  pub no_right_part : r ≡ no_cells n → p.lo ≤ top_cell n → top_cell n < q.lo → r ≡ positive_results n es divide p q
-  no_right_part h k l = rw (le-ltb (top_cell n) p.lo k, lt-ltb (top_cell n) q.lo l) h
-
   pub both_parts : r ≡ positive_some n es divide p q → p.lo ≤ top_cell n → q.lo ≤ top_cell n → r ≡ positive_results n es divide p q
   both_parts h k l = rw (le-ltb (top_cell n) p.lo k, le-ltb (top_cell n) q.lo l) h
 
-  pub quotient_part : divide ≡ true → r ≡ positive_some n es true p q → r ≡ positive_some n es divide p q
-  quotient_part e h = rw e h
-
-  pub product_part : divide ≡ false → r ≡ positive_some n es false p q → r ≡ positive_some n es divide p q
-  product_part e h = rw e h
-
--- ---- the number 0
-module _ (n : ℕ) (s : Span) {z : ℕ} (e : z ≡ 2 ^ n) where
-  pub zero_from_low : s.lo ≤ z - 1 → leb (z - 1) s.hi ≡ has_zero n s
-  zero_from_low h = rw (e, le-leb s.lo (zero_cell n) (omega (arith, e, h)))
-
-  pub zero_before_low : z - 1 < s.lo → leb s.lo (z - 1) ≡ has_zero n s
-  zero_before_low h = rw (e, lt-leb s.lo (zero_cell n) (omega (arith, e, h)))
-
-  pub other_above : z ≤ s.hi → leb z s.hi ≡ has_other n s
-  other_above h = rw (e, le-leb (2 ^ n) s.hi (omega (arith, e, h)))
-
-  pub sign_above : z ≤ s.lo → leb z s.lo ≡ has_one_sign n s
-  sign_above h = rw (e, le-leb (2 ^ n) s.lo (omega (arith, e, h)))
-
-  pub sign_below : s.lo < z → ltb s.hi (z - 1) ≡ has_one_sign n s
-  sign_below h = rw (e, lt-leb (2 ^ n) s.lo (omega (arith, e, h)))
-
-  pub other_below : s.hi < z → ltb s.lo (z - 1) ≡ has_other n s
-  other_below h = rw (e, lt-leb (2 ^ n) s.hi (omega (arith, e, h)))
-
-  pub no_part_above : {r : Span} → r ≡ no_cells n → s.hi < z → r ≡ part_above n s
-  no_part_above h l = rw (lt-ltb s.hi (2 ^ n) (omega (arith, e, l))) h
-
-  pub some_part_above : {c : ℕ} → c ≡ max s.lo z → z ≤ s.hi → record { lo = c; hi = s.hi } ≡ part_above n s
-  some_part_above h l = rw (le-ltb s.hi (2 ^ n) (omega (arith, e, l)), h, e)
-
-module _ (n : ℕ) (x y : Bool) where
-  pub zero_there : {z : ℕ} → z ≡ 2 ^ n → x ≡ true → y ≡ true → record { lo = z - 1; hi = z - 1 } ≡ zero_if n x y
-  zero_there e f g = rw (e, f, g)
-
-  pub no_left_zero : {r : Span} → r ≡ no_cells n → x ≡ false → r ≡ zero_if n x y
-  no_left_zero h f = rw f h
-
-  pub no_right_zero : {r : Span} → r ≡ no_cells n → x ≡ true → y ≡ false → r ≡ zero_if n x y
-  no_right_zero h f g = rw (f, g) h
-
 -- the cells of the negatives
 module _ (n : ℕ) (s : Span) {t : ℕ} (e : t ≡ top_cell n) where
-  pub none_turned : {r : Span} → r ≡ no_cells n → t < s.lo → r ≡ turned_cells n s
-  none_turned h l = rw (lt-ltb (top_cell n) s.lo (omega (arith, e, l))) h
-
   pub some_turned : s.lo ≤ t → record { lo = t - s.hi; hi = t - s.lo } ≡ turned_cells n s
   some_turned l = rw (le-ltb (top_cell n) s.lo (omega (arith, e, l)), e)

@@ -1,11 +1,13 @@
 -- Products and quotients of ranges as a computation on cells: each operand is split into its part below 0, the number 0 and its part above 0;
 -- the results of two parts above 0 reach from the result of two of their ends to that of the other two, a minus turns cells round, and the
 -- results of all parts are put together.
-use Rattle.std.specs.Prelude.{Bool, true, false, ◌&&◌, ◌||◌, ℕ, ◌+◌, ◌-◌, ◌*◌, ◌/◌, ◌%◌, ◌^◌, ◌≤◌, min, max, eqb, ltb, leb}
+use Rattle.std.specs.Prelude.{Bool, true, false, ◌&&◌, ◌||◌, ℕ, ◌+◌, ◌-◌, ◌*◌, ◌/◌, ◌%◌, ◌^◌, ◌≤◌, ◌<◌, ◌≡◌, min, max, eqb, ltb, leb}
+use Rattle.posit.specs.Format.{nar}
 use Rattle.word.specs.declared.inner.span.Span.{Span}
 use Rattle.word.specs.Numbered.{pattern_at}
 use Rattle.word.specs.Spans.{top_cell, no_cells, mirrored}
 use Rattle.cell.specs.Cells.{zero_cell, result_cell}
+use Rattle.signs.specs.declared.inner.edge.Edge.{Edge}
 
 abbrev pub pick_cell : Bool → ℕ → ℕ → ℕ
 pick_cell true a b = a
@@ -15,13 +17,7 @@ abbrev pub pick_span : Bool → Span → Span → Span
 pick_span true a b = a
 pick_span false a b = b
 
--- ---- the ends of a part above 0
--- an end among the numbers above 0: no limit, or a posit that is a member itself or not
-pub record Edge : Type 0 where
-  pub unlimited : Bool
-  pub closed : Bool
-  pub posit : ℕ
-
+-- ---- the ends of a part above 0: each is no limit among the numbers above 0, or a posit that is a member itself or not
 -- an end by its cell: a start in the gap above 0 and an end in the topmost gap are no limit among the numbers above 0
 abbrev pub start_edge : ℕ → ℕ → Edge
 start_edge n c = record { unlimited = eqb c (2 ^ n); closed = eqb (c % 2) 1; posit = pattern_at n ((c - 1) / 2) }
@@ -33,6 +29,10 @@ end_edge n c = record { unlimited = eqb c (top_cell n); closed = eqb (c % 2) 1; 
 pub record CellAbove (n c : ℕ) : Type 0 where
   pub above : 2 ^ n ≤ c
   pub there : c ≤ top_cell n
+
+-- no limit, or a posit above 0
+abbrev pub EdgeAbove : ℕ → Edge → Type 0
+EdgeAbove n e = e.unlimited ≡ false → (0 < e.posit) × (e.posit < nar n)
 
 -- the first cell of the results that start at two ends, and the last of those that end there; open unless both are closed
 abbrev pub first_cell : ℕ → ℕ → Bool → Edge → Edge → ℕ
@@ -60,17 +60,21 @@ pub record PartAbove (n : ℕ) (s : Span) : Type 0 where
   pub high_there : s.hi ≤ top_cell n
   pub ordered : s.lo ≤ top_cell n → s.lo ≤ s.hi
 
--- the results of two parts above 0, where there are any: a quotient starts at the start over the end
+-- the end of the right operand where the results start, and the one where they end: a quotient starts at the start over the end
+abbrev pub first_edge : ℕ → Bool → Span → Edge
+first_edge n true q = end_edge n q.hi
+first_edge n false q = start_edge n q.lo
+
+abbrev pub last_edge : ℕ → Bool → Span → Edge
+last_edge n true q = start_edge n q.lo
+last_edge n false q = end_edge n q.hi
+
+-- the results of two parts above 0, where there are any
 abbrev pub positive_some : ℕ → ℕ → Bool → Span → Span → Span
-positive_some n es true p q =
+positive_some n es divide p q =
     record {
-      lo = first_cell n es true (start_edge n p.lo) (end_edge n q.hi);
-      hi = last_cell n es true (end_edge n p.hi) (start_edge n q.lo);
-    }
-positive_some n es false p q =
-    record {
-      lo = first_cell n es false (start_edge n p.lo) (start_edge n q.lo);
-      hi = last_cell n es false (end_edge n p.hi) (end_edge n q.hi);
+      lo = first_cell n es divide (start_edge n p.lo) (first_edge n divide q);
+      hi = last_cell n es divide (end_edge n p.hi) (last_edge n divide q);
     }
 
 abbrev pub positive_results : ℕ → ℕ → Bool → Span → Span → Span
@@ -111,3 +115,8 @@ quotient_cells n es a b = hull_of (signed_results n es true a b) (zero_if n (has
 abbrev pub product_cells : ℕ → ℕ → Span → Span → Span
 product_cells n es a b =
     hull_of (hull_of (signed_results n es false a b) (zero_if n (has_zero n a) (has_other n b))) (zero_if n (leb a.lo a.hi) (has_zero n b))
+
+-- those of all quotients, or of all products
+abbrev pub result_cells : ℕ → ℕ → Bool → Span → Span → Span
+result_cells n es true a b = quotient_cells n es a b
+result_cells n es false a b = product_cells n es a b

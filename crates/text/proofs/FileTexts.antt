@@ -10,8 +10,9 @@ use lib.Seq.{take_at}
 use Rattle.file.specs.File.{width_of, exponent_size_of, inputs_part, steps_part, file_of, verdict_of_file, rows_of_file}
 use Rattle.sheet.specs.Sheet.{steps_of}
 use Rattle.file.specs.Accepted.{FileAccepted}
-use Rattle.call.specs.Written.{Writes, count_of, later_of}
-use Rattle.call.specs.declared.counted.Counted.{Counted}
+use Rattle.std.specs.Prelude.{Ok}
+use Rattle.call.specs.Written.{Writes, later_of}
+use Rattle.call.proofs.Answered.{accepts}
 use Rattle.file.proofs.FileVerdict.{file_done_exactly}
 use Rattle.sheet.proofs.Rows.{length_rows, length_steps}
 use Rattle.text.specs.FileText.{most_rows, text_of_file, Leaves}
@@ -57,14 +58,14 @@ module _ (file : List ℕ) where
         (arith, length_rows (width_of file) (exponent_size_of file) (inputs_part file) (steps_of (steps_part file)), length_steps (steps_part file), accepted.sheet.fits.room)
 
 -- ---- the rows that were worked into a column
-module _ (file : List ℕ) {before after : List ℕ} {r : Counted} (w : Writes (verdict_of_file file most_rows) 0 (rows_of_file file) before after r) (z : r.number ≡ 0) where
+module _ (file : List ℕ) {before after : List ℕ} (count : ℕ) (w : Writes (verdict_of_file file most_rows) 0 (rows_of_file file) before after (Ok count)) where
   pub was_done : (verdict_of_file file most_rows).number ≡ 0
-  was_done = sym w.number ∙ z
+  was_done = accepts w.count.0
 
-  pub rows_counted : r.count ≡ length (rows_of_file file)
-  rows_counted = w.count ∙ ap (λ (number : ℕ). count_of number (length (rows_of_file file))) was_done
+  pub rows_counted : count ≡ length (rows_of_file file)
+  rows_counted = w.count.1
 
-  pub rows_in_front : take r.count after ≡ rows_of_file file
+  pub rows_in_front : take count after ≡ rows_of_file file
   rows_in_front =
-      ap (take r.count) (w.later ∙ ap (λ (number : ℕ). later_of number 0 (rows_of_file file) before) was_done)
-      ∙ take_at (rows_of_file file) (drop (0 + length (rows_of_file file)) before) r.count (sym rows_counted)
+      ap (take count) (w.later ∙ ap (λ (number : ℕ). later_of number 0 (rows_of_file file) before) was_done)
+      ∙ take_at (rows_of_file file) (drop (0 + length (rows_of_file file)) before) count (sym rows_counted)

@@ -2,12 +2,11 @@
 ghost use Rattle.text.specs.FileText.{text_of_file, Leaves};
 
 use super::inner::lines::{put_refusal, put_rows};
-use call::number::DONE;
+use call::refusal::Refusal;
 use file::file::work_file;
-use file::inner::layout::N_AT;
-
-// 32 inputs and 64 steps.
-const MOST_ROWS: usize = 96;
+use file::inner::layout::{ES_AT, N_AT};
+use posit::inner::format::Format;
+use sheet::inner::steps::MOST_ROWS;
 
 // Room for the longest text, 96 lines of 21 bytes.
 pub const TEXT_BYTES: usize = 2048;
@@ -17,12 +16,14 @@ pub fn sheet_text(file: &[u8], buffer: &mut [u8; TEXT_BYTES]) -> usize
     ensures { Leaves (text_of_file file.now) buffer.old buffer.new result }
 {
     let mut rows = [0u64; MOST_ROWS];
-    let worked = work_file(file, &mut rows);
-    let number = worked.number;
-    if number != DONE {
-        return put_refusal(number, worked.place, buffer);
+    match work_file(file, &mut rows) {
+        Ok(count) => {
+            let f = Format {
+                n: u32::from(file[N_AT]),
+                es: u32::from(file[ES_AT]),
+            };
+            put_rows(f, &rows[..count as usize], buffer)
+        }
+        Err(Refusal { reason, place }) => put_refusal(reason.number(), place, buffer),
     }
-    let n = file[N_AT] as u32;
-    let count = worked.count as usize;
-    put_rows(n, &rows[..count], buffer)
 }

@@ -40,14 +40,7 @@ across_tiles n w h =
       before_nar = ltb-true u (2 ^ n) (second_of (leb 2 u) (ltb u (2 ^ n)) l);
     }
 
--- ---- a tile with its posit negated
--- without the turn at 0
-pub tile_negated : (n : ℕ) {t : ℕ} → 2 ≤ t → t < tiles n → 2 * 2 ^ n - t + 2 * (t % 2) ≡ turned_tile n t
-tile_negated n {t} h l =
-    let e = negated_positive n {p = t / 2} (omega arith) (omega (arith, power_wider n)) in
-    omega (arith, e, power_wider n)
-
--- the negatives of an end start at its tile with the posit negated
+-- ---- the negatives of an end start at its tile with the posit negated
 pub negated_end : (n : ℕ) → 3 ≤ n → {c : ℕ} → c ≤ top_cell n → start_tile_at n (top_cell n - c) ≡ turned_tile n (end_tile_at n c)
 negated_end n wide {c} h =
     let k = tiled n wide c h in

@@ -49,23 +49,24 @@ or_below a b =
     (λ h. (or_small a b).1 (ltb-true a (2 ^ 63) (first_of_two p q h), ltb-true b (2 ^ 63) (second_of p q h)))
 
 -- ---- differences that wrap
-start_judged : {s x : ℕ} → s < 2 ^ 60 → x < 2 ^ 64 → (x + 1) % 2 ^ 64 ≡ s → (x < 2 ^ 63) ↔ (1 ≤ s)
-start_judged room there is = omega arith
+abbrev less : ℕ → ℕ → ℕ
+less x y = (x + (2 ^ 64 - y)) % 2 ^ 64
+
+start_judged : {s : ℕ} → s < 2 ^ 60 → (less s 1 < 2 ^ 63) ↔ (1 ≤ s)
+start_judged room = omega arith
 
 -- an end tile less two where it is open
-record EndLess (t e : ℕ) : Type 0 where
-  room : t < 2 ^ 18
-  there : e < 2 ^ 64
-  is : (e + t % 2) % 2 ^ 64 ≡ t - t % 2
+abbrev end_less : ℕ → ℕ
+end_less t = less (t - t % 2) (t % 2)
 
-order_judged : (s : ℕ) {t e x : ℕ} → s < 2 ^ 60 → EndLess t e → x < 2 ^ 64 → (x + s) % 2 ^ 64 ≡ e → (x < 2 ^ 63) ↔ (s + 2 * (t % 2) ≤ t)
-order_judged s room end there is = omega arith
+order_judged : (s : ℕ) {t : ℕ} → s < 2 ^ 60 → t < 2 ^ 18 → (less (end_less t) s < 2 ^ 63) ↔ (s + 2 * (t % 2) ≤ t)
+order_judged s {t} room small = omega arith
 
-end_judged : {t e x : ℕ} → EndLess t e → x < 2 ^ 64 → (x + 1) % 2 ^ 64 ≡ e → (x < 2 ^ 63) ↔ (2 ≤ t)
-end_judged end there is = let (forth, back) = order_judged 1 (omega arith) end there is in (λ l. omega (arith, forth l), λ h. back (omega arith))
+end_judged : {t : ℕ} → t < 2 ^ 18 → (less (end_less t) 1 < 2 ^ 63) ↔ (2 ≤ t)
+end_judged small = let (forth, back) = order_judged 1 (omega arith) small in (λ l. omega (arith, forth l), λ h. back (omega arith))
 
-end_small : {t e : ℕ} → EndLess t e → 2 ≤ t → e < 2 ^ 18
-end_small end h = omega arith
+end_small : {t : ℕ} → t < 2 ^ 18 → 2 ≤ t → end_less t < 2 ^ 18
+end_small small h = omega arith
 
 -- ---- a start counted from 0 with a sign: its first bit is turned, and as much taken off; what is no tile comes behind all ends
 data Counted (h s x : ℕ) : Type 0 where
@@ -73,65 +74,64 @@ data Counted (h s x : ℕ) : Type 0 where
   below : h ≤ s → s < 2 * h → x + 2 * h ≡ s + 2 ^ 64 → Counted h s x
   beyond : 2 * h ≤ s → h ≤ x → x < 2 ^ 62 → Counted h s x
 
-start_counted : (n s : ℕ) {x : ℕ} → 2 ^ n ≤ 65536 → s < 2 ^ 60 → x < 2 ^ 64 → (x + 2 ^ n) % 2 ^ 64 ≡ bit_xor s (2 ^ n) → Counted (2 ^ n) s x
-start_counted n s {x} small room there is = by (s / 2 ^ n) refl
+start_counted : (n s : ℕ) → 2 ^ n ≤ 65536 → s < 2 ^ 60 → Counted (2 ^ n) s (less (bit_xor s (2 ^ n)) (2 ^ n))
+start_counted n s small room = by (s / 2 ^ n) refl
   where
     rest : s % 2 ^ n < 2 ^ n
     rest = mod-lt s (pow_pos n)
 
-    parts : (x + 2 ^ n) % 2 ^ 64 ≡ bit_xor (s / 2 ^ n) 1 * 2 ^ n + s % 2 ^ n
-    parts = is ∙ ap (λ (i : ℕ). bit_xor i (2 ^ n)) (sym (split s n)) ∙ bit_turned n (s / 2 ^ n) rest
+    parts : bit_xor s (2 ^ n) ≡ bit_xor (s / 2 ^ n) 1 * 2 ^ n + s % 2 ^ n
+    parts = ap (λ (i : ℕ). bit_xor i (2 ^ n)) (sym (split s n)) ∙ bit_turned n (s / 2 ^ n) rest
 
-    by : (q : ℕ) → s / 2 ^ n ≡ q → Counted (2 ^ n) s x
+    by : (q : ℕ) → s / 2 ^ n ≡ q → Counted (2 ^ n) s (less (bit_xor s (2 ^ n)) (2 ^ n))
     by zero e = above (omega (arith, rw e at (split s n), rest)) (omega (arith, rw e at (split s n), rw e at parts))
     by (suc zero) e = below (omega (arith, rw e at (split s n))) (omega (arith, rw e at (split s n), rest)) (omega (arith, rw e at (split s n), rw e at parts, rest))
     by (suc (suc q)) e =
         let k = suc (suc q) in
         let least : 2 ≤ bit_xor k 1 = omega (arith, xor_step k 1, xor_zero_r (k / 2)) in
         let most : bit_xor k 1 ≤ k + 1 = omega (arith, xor_add_and k 1) in
-        let low : 2 * 2 ^ n ≤ (x + 2 ^ n) % 2 ^ 64 = omega (arith, mul-le-mul_right (2 ^ n) least, rw e at parts) in
-        let high : (x + 2 ^ n) % 2 ^ 64 ≤ s + 2 ^ n = omega (arith, mul-le-mul_right (2 ^ n) most, rw e at (split s n), rw e at parts) in
+        let low : 2 * 2 ^ n ≤ bit_xor s (2 ^ n) = omega (arith, mul-le-mul_right (2 ^ n) least, rw e at parts) in
+        let high : bit_xor s (2 ^ n) ≤ s + 2 ^ n = omega (arith, mul-le-mul_right (2 ^ n) most, rw e at (split s n), rw e at parts) in
         beyond (omega (arith, rw e at (split s n))) (omega arith) (omega arith)
 
 -- the end less such a start x, and the start with all but two of the tiles above 0 added
-module _ (h s x : ℕ) (large : 8 ≤ h) (small : h ≤ 65536) {y : ℕ} where
-  module _ {e : ℕ} (there : y < 2 ^ 64) (is : (y + x) % 2 ^ 64 ≡ e) where
-    order_below : h ≤ s → s < 2 * h → x + 2 * h ≡ s + 2 ^ 64 → e < 2 ^ 18 → y < 2 ^ 63
-    order_below k l m i = omega arith
+module _ (h s x : ℕ) (large : 8 ≤ h) (small : h ≤ 65536) where
+  order_below : {e : ℕ} → h ≤ s → s < 2 * h → x + 2 * h ≡ s + 2 ^ 64 → e < 2 ^ 18 → less e x < 2 ^ 63
+  order_below k l m i = omega arith
 
-    order_beyond : {t : ℕ} → EndLess t e → h ≤ x → x < 2 ^ 62 → t < h → 2 ^ 63 ≤ y
-    order_beyond end k l i = omega arith
+  order_beyond : {t : ℕ} → t < 2 ^ 18 → h ≤ x → x < 2 ^ 62 → t < h → 2 ^ 63 ≤ less (end_less t) x
+  order_beyond i j k l = omega arith
 
-  module _ (is : y ≡ (x + (h - 2)) % 2 ^ 64) where
-    limit_above : s < h → x ≡ s → y < 2 ^ 63
-    limit_above l e = omega arith
+  limit_above : s < h → x ≡ s → (x + (h - 2)) % 2 ^ 64 < 2 ^ 63
+  limit_above l e = omega arith
 
-    limit_below : h ≤ s → s < 2 * h → x + 2 * h ≡ s + 2 ^ 64 → (y < 2 ^ 63) ↔ (h + 2 ≤ s)
-    limit_below k l e = omega arith
+  limit_below : h ≤ s → s < 2 * h → x + 2 * h ≡ s + 2 ^ 64 → ((x + (h - 2)) % 2 ^ 64 < 2 ^ 63) ↔ (h + 2 ≤ s)
+  limit_below k l e = omega arith
 
--- ---- the tests of a range above 0 or across it, and the numbers a, b, c and d that pass 2^63 where they fail
-module _ {n s t e x a b c d : ℕ} (large : 8 ≤ 2 ^ n) (small : 2 ^ n ≤ 65536) (room : s < 2 ^ 60) (end : EndLess t e)
-    (a_there : a < 2 ^ 64) (a_is : (a + 1) % 2 ^ 64 ≡ e) (b_there : b < 2 ^ 64) (b_is : (b + x) % 2 ^ 64 ≡ e)
-    (c_is : c ≡ (x + (2 ^ n - 2)) % 2 ^ 64) (d_there : d < 2 ^ 64) (d_is : (d + 1) % 2 ^ 64 ≡ s) where
-  passed : Counted (2 ^ n) s x → FourSmall a b c d × (t < 2 ^ n) → PlainTiles n s t ⊎ AcrossTiles n s t
+-- ---- the tests of a range above 0 or across it, and the numbers that pass 2^63 where they fail
+abbrev Passed : ℕ → ℕ → ℕ → ℕ → Type 0
+Passed n s t x = FourSmall (less (end_less t) 1) (less (end_less t) x) ((x + (2 ^ n - 2)) % 2 ^ 64) (less s 1) × (t < 2 ^ n)
+
+module _ {n s t x : ℕ} (large : 8 ≤ 2 ^ n) (small : 2 ^ n ≤ 65536) (room : s < 2 ^ 60) (end : t < 2 ^ 18) where
+  passed : Counted (2 ^ n) s x → Passed n s t x → PlainTiles n s t ⊎ AcrossTiles n s t
   passed (above l i) ((ha, hb, hc, hd), h) =
-      inl (record { above = (start_judged room d_there d_is).0 hd; ordered = (order_judged s room end b_there (rw i at b_is)).0 hb; below = h })
+      inl (record { above = (start_judged room).0 hd; ordered = (order_judged s room end).0 (rw i at hb); below = h })
   passed (below k l i) ((ha, hb, hc, hd), h) =
       inr (record {
-        behind_nar = (limit_below (2 ^ n) s x large small c_is k l i).0 hc;
+        behind_nar = (limit_below (2 ^ n) s x large small k l i).0 hc;
         there = omega (arith, power_wider n);
-        behind_zero = (end_judged end a_there a_is).0 ha;
+        behind_zero = (end_judged end).0 ha;
         before_nar = h;
       })
-  passed (beyond k l i) ((ha, hb, hc, hd), h) = absurd (omega (arith, order_beyond (2 ^ n) s x large small b_there b_is end l i h))
+  passed (beyond k l i) ((ha, hb, hc, hd), h) = absurd (omega (arith, order_beyond (2 ^ n) s x large small end l i h))
 
-  passes : Counted (2 ^ n) s x → PlainTiles n s t ⊎ AcrossTiles n s t → FourSmall a b c d × (t < 2 ^ n)
+  passes : Counted (2 ^ n) s x → PlainTiles n s t ⊎ AcrossTiles n s t → Passed n s t x
   passes (above l i) (inl p) = (
     (
-      (end_judged end a_there a_is).1 (omega (arith, p)),
-      (order_judged s room end b_there (rw i at b_is)).1 p.ordered,
-      limit_above (2 ^ n) s x large small c_is l i,
-      (start_judged room d_there d_is).1 p.above,
+      (end_judged end).1 (omega (arith, p)),
+      rw i ((order_judged s room end).1 p.ordered),
+      limit_above (2 ^ n) s x large small l i,
+      (start_judged room).1 p.above,
     ),
     p.below,
   )
@@ -139,17 +139,17 @@ module _ {n s t e x a b c d : ℕ} (large : 8 ≤ 2 ^ n) (small : 2 ^ n ≤ 6553
   passes (below k l i) (inl p) = absurd (omega (arith, k, p))
   passes (below k l i) (inr p) = (
     (
-      (end_judged end a_there a_is).1 p.behind_zero,
-      order_below (2 ^ n) s x large small b_there b_is k l i (end_small end p.behind_zero),
-      (limit_below (2 ^ n) s x large small c_is k l i).1 p.behind_nar,
-      (start_judged room d_there d_is).1 (omega (arith, p)),
+      (end_judged end).1 p.behind_zero,
+      order_below (2 ^ n) s x large small k l i (end_small end p.behind_zero),
+      (limit_below (2 ^ n) s x large small k l i).1 p.behind_nar,
+      (start_judged room).1 (omega (arith, p)),
     ),
     p.before_nar,
   )
   passes (beyond k l i) (inl p) = absurd (omega (arith, k, p))
   passes (beyond k l i) (inr p) = absurd (omega (arith, k, p, power_wider n))
 
-  tests : Counted (2 ^ n) s x → (FourSmall a b c d × (t < 2 ^ n)) ↔ (PlainTiles n s t ⊎ AcrossTiles n s t)
+  tests : Counted (2 ^ n) s x → Passed n s t x ↔ (PlainTiles n s t ⊎ AcrossTiles n s t)
   tests k = (passed k, passes k)
 
 -- ---- the tiles tell the kind of a word
@@ -209,33 +209,41 @@ module _ (n w : ℕ) (wide : 3 ≤ n) (narrow : n ≤ 16) (fits : w < 2 ^ 64) wh
     pub mark_fits : w % 2 ≤ w % all
     mark_fits = rw is_all (omega (arith, mark))
 
-    module _ {e : ℕ} (e_there : e < 2 ^ 64) (e_is : (e + w % 2) % 2 ^ 64 ≡ w % all - w % 2) where
-      end_less : EndLess (end_tile n w) e
-      end_less = record { room = end_room; there = e_there; is = rw mark (rw is_all at e_is) }
+    pub plain_judged : ltb (bit_or (bit_or (less (w / all) 1) (less (less (w % all - w % 2) (w % 2)) (w / all))) (w * 2 ^ (63 - n) % 2 ^ 64)) (2 ^ 63) ≡ is_plain n w
+    plain_judged =
+        let s = start_tile n w in
+        let t = end_tile n w in
+        let joined = or_small (bit_or (less s 1) (less (end_less t) s)) (w * 2 ^ (63 - n) % 2 ^ 64) in
+        let two = or_small (less s 1) (less (end_less t) s) in
+        rw (is_all, ← mark)
+        (told (is_plain n w)
+        (λ l.
+        let (q, z) = joined.0 l in
+        let (hx, hy) = two.0 q in
+        tiles_plain n w (record { above = (start_judged start_room).0 hx; ordered = (order_judged s start_room end_room).0 hy; below = upper_half.0 z }))
+        (λ h.
+        let p = plain_tiles n w h in
+        joined.1 (two.1 ((start_judged start_room).1 p.above, (order_judged s start_room end_room).1 p.ordered), upper_half.1 p.below)))
 
-      pub plain_judged : {x y : ℕ} → x < 2 ^ 64 → (x + 1) % 2 ^ 64 ≡ w / all → y < 2 ^ 64 → (y + w / all) % 2 ^ 64 ≡ e
-          → ltb (bit_or (bit_or x y) (w * 2 ^ (63 - n) % 2 ^ 64)) (2 ^ 63) ≡ is_plain n w
-      plain_judged {x} {y} x_there x_is y_there y_is =
-          let begins = start_judged start_room x_there (rw is_all at x_is) in
-          let ordered = order_judged (start_tile n w) start_room end_less y_there (rw is_all at y_is) in
-          let joined = or_small (bit_or x y) (w * 2 ^ (63 - n) % 2 ^ 64) in
-          told (is_plain n w)
-          (λ l.
-          let (q, z) = joined.0 l in
-          let (hx, hy) = (or_small x y).0 q in
-          tiles_plain n w (record { above = begins.0 hx; ordered = ordered.0 hy; below = upper_half.0 z }))
-          (λ h. let p = plain_tiles n w h in joined.1 ((or_small x y).1 (begins.1 p.above, ordered.1 p.ordered), upper_half.1 p.below))
+    module _ {half : ℕ} (is_half : half ≡ 2 ^ n) where
+      abbrev counted_from : ℕ
+      counted_from = less (bit_xor (w / all) half) half
 
-      pub spread_judged : {half x a b c d : ℕ} → half ≡ 2 ^ n → x < 2 ^ 64 → (x + half) % 2 ^ 64 ≡ bit_xor (w / all) half
-          → a < 2 ^ 64 → (a + 1) % 2 ^ 64 ≡ e → b < 2 ^ 64 → (b + x) % 2 ^ 64 ≡ e → c ≡ (x + (half - 2)) % 2 ^ 64
-          → d < 2 ^ 64 → (d + 1) % 2 ^ 64 ≡ w / all
-          → ltb (bit_or (bit_or (bit_or (bit_or a b) c) d) (w * 2 ^ (63 - n) % 2 ^ 64)) (2 ^ 63) ≡ is_spread n w
-      spread_judged {half} {x} {a} {b} {c} {d} is_half x_there x_is a_there a_is b_there b_is c_is d_there d_is =
+      abbrev end_here : ℕ
+      end_here = less (w % all - w % 2) (w % 2)
+
+      pub spread_judged :
+          ltb (bit_or (bit_or (bit_or (bit_or (less end_here 1) (less end_here counted_from)) ((counted_from + (half - 2)) % 2 ^ 64)) (less (w / all) 1)) (w * 2 ^ (63 - n) % 2 ^ 64)) (2 ^ 63)
+          ≡ is_spread n w
+      spread_judged =
+          let s = start_tile n w in
+          let t = end_tile n w in
           let small = half_small narrow in
-          let counted = start_counted n (start_tile n w) small start_room x_there (rw (is_all, is_half) at x_is) in
-          let tested = tests (half_large wide) small start_room end_less a_there a_is b_there b_is (rw is_half at c_is) d_there (rw is_all at d_is) counted in
-          let joined = or_small (bit_or (bit_or (bit_or a b) c) d) (w * 2 ^ (63 - n) % 2 ^ 64) in
-          let four = four_small a b c d in
-          told (is_spread n w)
+          let x = less (bit_xor s (2 ^ n)) (2 ^ n) in
+          let tested = tests (half_large wide) small start_room end_room (start_counted n s small start_room) in
+          let four = four_small (less (end_less t) 1) (less (end_less t) x) ((x + (2 ^ n - 2)) % 2 ^ 64) (less s 1) in
+          let joined = or_small (bit_or (bit_or (bit_or (less (end_less t) 1) (less (end_less t) x)) ((x + (2 ^ n - 2)) % 2 ^ 64)) (less s 1)) (w * 2 ^ (63 - n) % 2 ^ 64) in
+          rw (is_all, is_half, ← mark)
+          (told (is_spread n w)
           (λ l. let (q, z) = joined.0 l in tiles_spread n w (tested.0 (four.0 q, upper_half.0 z)))
-          (λ h. let (q, z) = tested.1 (spread_tiles n w h) in joined.1 (four.1 q, upper_half.1 z))
+          (λ h. let (q, z) = tested.1 (spread_tiles n w h) in joined.1 (four.1 q, upper_half.1 z)))

@@ -1,5 +1,6 @@
 pub mod PlainCells
 pub mod PlainResults
+pub mod Edges
 pub mod SumTiles
 pub mod AcrossCells
 pub mod AcrossResults

@@ -1,6 +1,6 @@
 -- The answer for two plain ranges reaches from the exact result of two of their ends to that of the other two: there is no sign and no empty answer, the
 -- only limit that may be missing is a start at the open 0, and the tile of a cell above that of 0 is its distance from the cells up to 0.
-use Rattle.std.proofs.Common.{◌≡◌, ℕ, ◌+◌, ◌-◌, ◌*◌, ◌/◌, ◌%◌, ◌^◌, ◌<◌, ◌≤◌, Bool, true, false, eqb, ◌≢◌, ◌⊎◌, pos, sym, refl, ap, ◌∙◌, ap₂, inl, inr, mod-lt, mod-eq_of_lt, arith, pow_pos, eq-eqb}
+use Rattle.std.proofs.Common.{◌≡◌, ℕ, ◌+◌, ◌-◌, ◌*◌, ◌/◌, ◌%◌, ◌^◌, ◌<◌, ◌≤◌, Bool, true, false, ◌⊎◌, pos, sym, refl, ap, ◌∙◌, ap₂, inl, inr, mod-lt, mod-eq_of_lt, arith, pow_pos}
 use mathlib.Core.Bool.{beq}
 use native.Mathlib.Decide.{dec_lt}
 use lib.Bits.{bit_or}
@@ -23,17 +23,18 @@ use Rattle.posit.proofs.Mirror.{power_wider}
 use Rattle.posit.proofs.Patterns.{some_bit}
 use Rattle.word.specs.declared.inner.span.Span.{Span}
 use Rattle.word.specs.Word.{tiles, start_tile, end_tile, word_of}
-use Rattle.word.specs.Member.{Member}
+use Rattle.word.specs.Member.{Real, Member}
 use Rattle.word.specs.Smallest.{Result}
 use Rattle.word.specs.Spans.{top_cell, start_cell, end_cell, start_tile_at, end_tile_at, cells_of, word_at}
 use Rattle.word.specs.Computed.{cell_of, answer_of}
 use Rattle.cell.specs.Cells.{sum_start, sum_end, sum_cells, result_of, result_cell}
-use Rattle.signs.specs.Signs.{Edge, start_edge, end_edge, first_cell, last_cell, turned_cells, pick_span, positive_some}
-use Rattle.signs.specs.OneSign.{magnitudes, with_signs}
-use Rattle.tiles.specs.Plain.{is_plain, open_zero, PlainStart, PlainEnd}
+use Rattle.signs.specs.Signs.{start_edge, end_edge, first_cell, last_cell, turned_cells, pick_span, positive_some, result_cells}
+use Rattle.signs.specs.OneSign.{with_signs}
+use Rattle.tiles.specs.Plain.{is_plain, PlainEnd}
+use Rattle.tiles.specs.Scaled.{operation_of, first_tile, last_tile, edge_at}
 use Rattle.word.proofs.Grid.{posits, once_over, half}
 use Rattle.word.proofs.Places.{top_cell_says}
-use Rattle.word.proofs.Tiles.{half_large, open_half, end_tile_is}
+use Rattle.word.proofs.Tiles.{half_large, end_tile_is}
 use Rattle.word.proofs.WordAt.{word_at_some, word_at_none}
 use Rattle.word.proofs.Members.{member_cells}
 use Rattle.word.proofs.Empty.{Usable, computed_empty_word_iff, no_result_iff}
@@ -42,10 +43,10 @@ use Rattle.cell.proofs.ZeroCell.{above_cell, zero_below}
 use Rattle.cell.proofs.SumCells.{end_found}
 use Rattle.cell.proofs.SumRange.{sum_word, sum_answer}
 use Rattle.signs.proofs.SignedCells.{product_answer, quotient_answer}
-use Rattle.signs.proofs.ReachedCells.{start_limited, start_unlimited, end_limited, first_limited, first_no_left, first_no_right, last_limited, last_no_right}
-use Rattle.signs.proofs.OneSigned.{above_magnitudes, products_of_magnitudes, quotients_of_magnitudes}
+use Rattle.signs.proofs.OneSigned.{above_magnitudes, results_of_magnitudes}
 use Rattle.cell.proofs.Marks.{open_mark, with_mark}
-use Rattle.tiles.proofs.PlainCells.{PlainTiles, first_of, last_of, plain_tiles, plain_end, plain_first, plain_last, plain_between, plain_cells, real_of_plain, plain_one_sign, plain_above, cells_ordered, ends_ordered, last_there, start_posit_is, end_posit_is, start_mark_is, end_mark_is}
+use Rattle.tiles.proofs.PlainCells.{first_of, last_of, plain_tiles, plain_start, plain_end, plain_last, plain_between, plain_cells, real_of_plain, plain_one_sign, plain_above, cells_ordered, ends_ordered, last_there, end_posit_is, end_mark_is}
+use Rattle.tiles.proofs.Edges.{start_edge_at, end_edge_at, first_edge_at, last_edge_at}
 
 -- ---- two closed ends, as a mark
 abbrev pub both_closed : ℕ → ℕ → ℕ
@@ -200,72 +201,6 @@ module _ (n es : ℕ) (wide : 3 ≤ n) where
       by (yes l) = absurd (some ((computed_empty_word_iff n es op a b wide known).0 (e ∙ word_at_none n (record { lo = lo; hi = hi }) l)))
       by (no l) = sym (e ∙ word_at_some n (record { lo = lo; hi = hi }) (omega arith))
 
--- ---- the ends of plain ranges
--- a limit at the posit of a tile, in the cell c
-pub record EdgeAt (x : Edge) (c t : ℕ) : Type 0 where
-  pub limited : x.unlimited ≡ false
-  pub closed : x.closed ≡ eqb (c % 2) 1
-  pub mark : c % 2 ≡ 1 - t % 2
-  pub posit : t / 2 ≡ x.posit
-
-module _ (n : ℕ) (wide : 3 ≤ n) where
-  pub start_edge_says : {s : ℕ} → PlainStart n s → s ≢ open_zero → EdgeAt (start_edge n (start_cell n s)) (first_of n s) s
-  start_edge_says {s} p d =
-      rw (plain_first n wide p)
-      (record {
-        limited = start_limited n (first_of n s) refl (omega (arith, p));
-        closed = refl;
-        mark = start_mark_is n wide p;
-        posit = start_posit_is n wide p;
-      })
-
-  pub end_edge_says : {t : ℕ} → PlainEnd n t → EdgeAt (end_edge n (end_cell n t)) (last_of n t) t
-  end_edge_says {t} p =
-      rw (plain_last n wide p)
-      (record {
-        limited = end_limited n (last_of n t) refl (omega (arith, last_there n wide p));
-        closed = refl;
-        mark = end_mark_is n wide p;
-        posit = end_posit_is n wide p;
-      })
-
-  -- a start at the open 0 is no limit
-  no_start : {s : ℕ} → PlainStart n s → s ≡ open_zero → (start_edge n (start_cell n s)).unlimited ≡ true
-  no_start {s} p e = rw (plain_first n wide p) (start_unlimited n (first_of n s) refl (omega arith))
-
-  first_tile : {c : ℕ} → 2 ^ n ≡ c → open_zero ≡ start_tile_at n c
-  first_tile {c} e = omega (arith, start_tile_high n wide {c = c} (omega (arith, power_wider n, half_large wide)) (omega arith))
-
-  module _ (es : ℕ) (divide : Bool) where
-    pub zero_first : {s : ℕ} → PlainStart n s → s ≡ open_zero → (y : Edge) → open_zero ≡ start_tile_at n (first_cell n es divide (start_edge n (start_cell n s)) y)
-    zero_first {s} p e y = first_tile (first_no_left n es divide (start_edge n (start_cell n s)) y refl (no_start p e))
-
-    pub zero_second : {x : Edge} {c s t : ℕ} → EdgeAt x c s → PlainStart n t → t ≡ open_zero → open_zero ≡ start_tile_at n (first_cell n es divide x (start_edge n (start_cell n t)))
-    zero_second {x} {t = t} i p e = first_tile (first_no_right n es divide x (start_edge n (start_cell n t)) refl i.limited (no_start p e))
-
-    pub no_limit : {x : Edge} {c s t all : ℕ} → EdgeAt x c s → PlainStart n t → t ≡ open_zero → all ≡ 2 ^ n
-        → all + 1 ≡ end_tile_at n (last_cell n es divide x (start_edge n (start_cell n t)))
-    no_limit {x} {t = t} i p e a =
-        rw (← last_no_right n es divide x (start_edge n (start_cell n t)) {r = top_cell n} refl i.limited (no_start p e), eq-eqb (top_cell n) (top_cell n) refl, a)
-        (sym (open_half wide))
-
-module _ (n es : ℕ) (divide : Bool) {x y : Edge} {c d s t : ℕ} (i : EdgeAt x c s) (j : EdgeAt y d t) {r : ℕ} (e : r ≡ result_cell n es divide (s / 2) (t / 2)) where
-  first_between : first_from s t r ≡ first_cell n es divide x y
-  first_between =
-      first_limited n es divide x y i.limited j.limited c d i.closed j.closed (e ∙ ap₂ (result_cell n es divide) i.posit j.posit)
-      (ap₂ (λ (p q : ℕ). chosen_by (p * q) (2 * ((r + 1) / 2)) r) (sym i.mark) (sym j.mark))
-
-  last_between : last_from s t r ≡ last_cell n es divide x y
-  last_between =
-      last_limited n es divide x y i.limited j.limited c d i.closed j.closed (e ∙ ap₂ (result_cell n es divide) i.posit j.posit)
-      (ap₂ (λ (p q : ℕ). chosen_by (p * q) (2 * (r / 2)) r) (sym i.mark) (sym j.mark))
-
-  pub start_between : {w : ℕ} → w ≡ start_tile_at n (first_from s t r) → w ≡ start_tile_at n (first_cell n es divide x y)
-  start_between h = h ∙ ap (start_tile_at n) first_between
-
-  pub end_between : {w : ℕ} → w ≡ end_tile_at n (last_from s t r) → w ≡ end_tile_at n (last_cell n es divide x y)
-  end_between h = h ∙ ap (end_tile_at n) last_between
-
 -- ---- sums move to the gap beside them
 last_moved : (s t c : ℕ) → c - c % 2 * (1 - both_closed s t) ≡ last_from s t c
 last_moved s t c = by (closed_by s t)
@@ -287,70 +222,68 @@ module _ (n es : ℕ) (wide : 3 ≤ n) {u v : ℕ} (p : PlainEnd n u) (q : Plain
       → w ≡ end_tile_at n (sum_end n es (end_cell n u) (end_cell n v))
   sums_end e h = h ∙ ap (end_tile_at n) (sum_last e)
 
--- ---- the answers
--- two plain ranges a and b, with the start tiles s and t and the end tiles u and v
-pub record PlainEnds (n es a b s t u v : ℕ) : Type 0 where
-  pub format : Format n es
-  pub left_plain : is_plain n a ≡ true
-  pub right_plain : is_plain n b ≡ true
-  pub left_start : s ≡ start_tile n a
-  pub right_start : t ≡ start_tile n b
-  pub left_end : u ≡ end_tile n a
-  pub right_end : v ≡ end_tile n b
+-- ---- the answers for two plain ranges
+-- whatever their signs
+pub result_answer : (n es : ℕ) → 3 ≤ n → (divide : Bool) {a b : ℕ} → Real n a → Real n b
+    → answer_of n es (operation_of divide) a b ≡ word_at n (result_cells n es divide (cells_of n a) (cells_of n b))
+result_answer n es wide true = quotient_answer n es wide
+result_answer n es wide false = product_answer n es wide
 
-module _ {n es a b s t u v : ℕ} (o : PlainEnds n es a b s t u v) where
-  pub wide : 3 ≤ n
-  wide = o.format.wide_enough
+known : (divide : Bool) → operation_of divide ≤ over
+known true = omega arith
+known false = omega arith
 
-  pub left_tiles : PlainTiles n s u
-  left_tiles = rw (o.left_start, o.left_end) (plain_tiles n a o.left_plain)
+module _ {n es : ℕ} (f : Format n es) (a b : ℕ) (h : is_plain n a ≡ true) (k : is_plain n b ≡ true) where
+  wide : 3 ≤ n
+  wide = f.wide_enough
 
-  pub right_tiles : PlainTiles n t v
-  right_tiles = rw (o.right_start, o.right_end) (plain_tiles n b o.right_plain)
+  left_real : Real n a
+  left_real = real_of_plain n a wide h
 
-  abbrev left : Span
-  left = record { lo = start_cell n s; hi = end_cell n u }
-
-  abbrev right : Span
-  right = record { lo = start_cell n t; hi = end_cell n v }
-
-  left_cells : cells_of n a ≡ left
-  left_cells = rw (o.left_start, o.left_end) (plain_between n a wide o.left_plain)
-
-  right_cells : cells_of n b ≡ right
-  right_cells = rw (o.right_start, o.right_end) (plain_between n b wide o.right_plain)
+  right_real : Real n b
+  right_real = real_of_plain n b wide k
 
   no_signs : (r : Span) → with_signs n (cells_of n a) (cells_of n b) r ≡ r
-  no_signs r = ap₂ (λ (p q : Bool). pick_span (beq p q) r (turned_cells n r)) (plain_above n a wide o.left_plain) (plain_above n b wide o.right_plain)
+  no_signs r = ap₂ (λ (p q : Bool). pick_span (beq p q) r (turned_cells n r)) (plain_above n a wide h) (plain_above n b wide k)
 
-  of_magnitudes : (divide : Bool) → positive_some n es divide (magnitudes n (cells_of n a)) (magnitudes n (cells_of n b)) ≡ positive_some n es divide left right
-  of_magnitudes divide =
-      ap₂ (positive_some n es divide) (above_magnitudes n (cells_of n a) (plain_above n a wide o.left_plain) ∙ left_cells)
-      (above_magnitudes n (cells_of n b) (plain_above n b wide o.right_plain) ∙ right_cells)
+  results_above : (divide : Bool) → answer_of n es (operation_of divide) a b ≡ word_at n (positive_some n es divide (cells_of n a) (cells_of n b))
+  results_above divide =
+      result_answer n es wide divide left_real right_real
+      ∙ ap (word_at n)
+      (sym (results_of_magnitudes n wide es (plain_one_sign n a wide h) (plain_one_sign n b wide k) divide) ∙ no_signs _
+      ∙ ap₂ (positive_some n es divide) (above_magnitudes n (cells_of n a) (plain_above n a wide h)) (above_magnitudes n (cells_of n b) (plain_above n b wide k)))
 
-  products_are : answer_of n es 2 a b ≡ word_at n (positive_some n es false left right)
-  products_are =
-      product_answer n es wide (real_of_plain n a wide o.left_plain) (real_of_plain n b wide o.right_plain)
-      ∙ ap (word_at n) (sym (products_of_magnitudes n wide es (plain_one_sign n a wide o.left_plain) (plain_one_sign n b wide o.right_plain)) ∙ no_signs _ ∙ of_magnitudes false)
+  -- by their tiles
+  first_is : (divide : Bool)
+      → (positive_some n es divide (cells_of n a) (cells_of n b)).lo ≡ first_cell n es divide (edge_at (start_tile n a)) (edge_at (first_tile n divide b))
+  first_is divide =
+      ap₂ (first_cell n es divide)
+      (ap (λ (s : Span). start_edge n s.lo) (plain_cells n a wide h) ∙ start_edge_at n wide (plain_start (plain_tiles n a h)))
+      (first_edge_at n wide b k divide)
 
-  quotients_are : answer_of n es 3 a b ≡ word_at n (positive_some n es true left right)
-  quotients_are =
-      quotient_answer n es wide (real_of_plain n a wide o.left_plain) (real_of_plain n b wide o.right_plain)
-      ∙ ap (word_at n) (sym (quotients_of_magnitudes n wide es (plain_one_sign n a wide o.left_plain) (plain_one_sign n b wide o.right_plain)) ∙ no_signs _ ∙ of_magnitudes true)
+  last_is : (divide : Bool)
+      → (positive_some n es divide (cells_of n a) (cells_of n b)).hi ≡ last_cell n es divide (edge_at (end_tile n a)) (edge_at (last_tile n divide b))
+  last_is divide =
+      ap₂ (last_cell n es divide)
+      (ap (λ (s : Span). end_edge n s.hi) (plain_cells n a wide h) ∙ end_edge_at n wide (plain_end (plain_tiles n a h)))
+      (last_edge_at n wide b k divide)
 
-  -- ---- two tiles of the answer make the answer
-  pub product_found : {x y w : ℕ} → x ≡ start_tile_at n (first_cell n es false (start_edge n (start_cell n s)) (start_edge n (start_cell n t)))
-      → y ≡ end_tile_at n (last_cell n es false (end_edge n (end_cell n u)) (end_edge n (end_cell n v))) → w ≡ word_of n x y → w ≡ answer_of n es 2 a b
-  product_found = tiles_answer n es wide 2 a b (omega arith) (some_result n es wide 2 a b (omega arith) o.left_plain o.right_plain) _ _ products_are
+  pub result_found : (divide : Bool) {x y w : ℕ}
+      → x ≡ start_tile_at n (first_cell n es divide (edge_at (start_tile n a)) (edge_at (first_tile n divide b)))
+      → y ≡ end_tile_at n (last_cell n es divide (edge_at (end_tile n a)) (edge_at (last_tile n divide b)))
+      → w ≡ word_of n x y → w ≡ answer_of n es (operation_of divide) a b
+  result_found divide =
+      tiles_answer n es wide (operation_of divide) a b (known divide) (some_result n es wide (operation_of divide) a b (known divide) h k) _ _
+      (results_above divide ∙ ap (word_at n) (λ i. record { lo = first_is divide i; hi = last_is divide i }))
 
-  pub quotient_found : {x y w : ℕ} → x ≡ start_tile_at n (first_cell n es true (start_edge n (start_cell n s)) (end_edge n (end_cell n v)))
-      → y ≡ end_tile_at n (last_cell n es true (end_edge n (end_cell n u)) (start_edge n (start_cell n t))) → w ≡ word_of n x y → w ≡ answer_of n es 3 a b
-  quotient_found = tiles_answer n es wide 3 a b (omega arith) (some_result n es wide 3 a b (omega arith) o.left_plain o.right_plain) _ _ quotients_are
-
-  pub sum_found : {x y w : ℕ} → x ≡ start_tile_at n (sum_start n es (start_cell n s) (start_cell n t))
-      → y ≡ end_tile_at n (sum_end n es (end_cell n u) (end_cell n v)) → w ≡ word_of n x y → w ≡ answer_of n es 0 a b
+  pub sum_found : {x y w : ℕ} → x ≡ start_tile_at n (sum_start n es (start_cell n (start_tile n a)) (start_cell n (start_tile n b)))
+      → y ≡ end_tile_at n (sum_end n es (end_cell n (end_tile n a)) (end_cell n (end_tile n b))) → w ≡ word_of n x y → w ≡ answer_of n es 0 a b
   sum_found =
-      tiles_answer n es wide 0 a b (omega arith) (some_result n es wide 0 a b (omega arith) o.left_plain o.right_plain) _ _
-      (sum_answer n es wide (real_of_plain n a wide o.left_plain) (real_of_plain n b wide o.right_plain)
-      ∙ ap₂ (λ (x y : Span). word_at n (sum_cells n es x y)) left_cells right_cells
-      ∙ sym (sum_word n es wide left right refl refl (ends_ordered n wide left_tiles) (ends_ordered n wide right_tiles) refl))
+      let p = plain_tiles n a h in
+      let q = plain_tiles n b k in
+      let left : Span = record { lo = start_cell n (start_tile n a); hi = end_cell n (end_tile n a) } in
+      let right : Span = record { lo = start_cell n (start_tile n b); hi = end_cell n (end_tile n b) } in
+      tiles_answer n es wide 0 a b (omega arith) (some_result n es wide 0 a b (omega arith) h k) _ _
+      (sum_answer n es wide left_real right_real
+      ∙ ap₂ (λ (x y : Span). word_at n (sum_cells n es x y)) (plain_between n a wide h) (plain_between n b wide k)
+      ∙ sym (sum_word n es wide left right refl refl (ends_ordered n wide p) (ends_ordered n wide q) refl))

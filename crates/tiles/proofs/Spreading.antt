@@ -4,12 +4,12 @@ use borrow.Author.Tests.{eqb-false}
 use Rattle.posit.proofs.Mirror.{power_wider}
 use Rattle.word.specs.Word.{tiles, start_tile, end_tile}
 use Rattle.word.specs.Member.{Real}
-use Rattle.tiles.specs.Plain.{is_plain, PlainEnd}
+use Rattle.tiles.specs.Plain.{is_plain}
 use Rattle.tiles.specs.Across.{is_across}
 use Rattle.tiles.specs.Spread.{is_spread}
 use Rattle.signs.proofs.OneSigned.{first_of_two, second_of}
-use Rattle.tiles.proofs.PlainCells.{plain_tiles, plain_end, real_of_plain}
-use Rattle.tiles.proofs.AcrossCells.{across_tiles, upper, real_of_across}
+use Rattle.tiles.proofs.PlainCells.{plain_tiles, real_of_plain}
+use Rattle.tiles.proofs.AcrossCells.{real_of_across}
 
 -- ---- one of the two
 either : (p q : Bool) → (p || q) ≡ true → (p ≡ true) ⊎ (q ≡ true)
@@ -58,10 +58,3 @@ real_of_spread n w wide h = by (spread_by n w h)
     by : (is_plain n w ≡ true) ⊎ (is_across n w ≡ true) → Real n w
     by (inl p) = real_of_plain n w wide p
     by (inr q) = real_of_across n w wide q
-
-pub spread_end : (n w : ℕ) → 3 ≤ n → is_spread n w ≡ true → PlainEnd n (end_tile n w)
-spread_end n w wide h = by (spread_by n w h)
-  where
-    by : (is_plain n w ≡ true) ⊎ (is_across n w ≡ true) → PlainEnd n (end_tile n w)
-    by (inl p) = plain_end (plain_tiles n w p)
-    by (inr q) = upper n wide (across_tiles n w q)

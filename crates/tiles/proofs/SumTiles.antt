@@ -1,5 +1,6 @@
 -- The start tile of all sums from two tiles on: that of the exact sum of their posits, open where either tile is. The tile of a number other than 0 is the step of
 -- its size among the posits, from the tile of 0 up or down.
+use Rattle.std.specs.Prelude.{Option, Some, None}
 use Rattle.std.proofs.Common.{◌≡◌, ℕ, ◌+◌, ◌-◌, ◌*◌, ◌/◌, ◌%◌, ◌^◌, ◌<◌, ◌≤◌, Bool, true, false, ◌⊎◌, sym, refl, ap, ◌∙◌, ap₂, inl, inr, mod-eq_of_lt, arith, pow_pos}
 use lib.Bits.{bit_or}
 use Rattle.exact.specs.Fraction.{Fraction, ◌+ᶠ◌}
@@ -8,8 +9,7 @@ use Rattle.posit.specs.Format.{Format, Finite}
 use Rattle.posit.specs.Value.{value}
 use Rattle.posit.proofs.Mirror.{power_wider}
 use Rattle.posit.proofs.Patterns.{some_bit}
-use Rattle.code.specs.declared.inner.sum.SignedSum.{SignedSum}
-use Rattle.code.specs.declared.inner.sum.SignedSum.TheVariants.{Nothing, Something}
+use Rattle.posit.specs.declared.inner.signed.Signed.{Signed}
 use Rattle.code.specs.Coded.{IsSignedSum}
 use Rattle.code.specs.Step.{StepOf}
 use Rattle.word.specs.Word.{tiles}
@@ -93,12 +93,12 @@ signed_tile n true {step} h l =
 signed_tile n false {step} h l =
     sym (once_over {x = 2 ^ n - 1 + step + 1 + 2 ^ n} {m = tiles n} (omega (arith, power_wider n)) (omega (arith, power_wider n)) ∙ omega (arith, power_wider n, pow_pos n))
 
-pub nothing_tile : (n es : ℕ) → 3 ≤ n → (z : Fraction) {r : SignedSum} → IsSignedSum es z r → r ≡ Nothing → 0 ≡ start_tile_at n (cell_of n es z)
+pub nothing_tile : (n es : ℕ) → 3 ≤ n → (z : Fraction) {r : Option (Signed ℕ)} → IsSignedSum es z r → r ≡ None → 0 ≡ start_tile_at n (cell_of n es z)
 nothing_tile n es wide z k e =
     let c = nothing_cell n es wide z k {all = 2 ^ n} e refl in
     sym (ap (start_tile_at n) (sym c) ∙ once_over {x = 2 ^ n - 1 + 1 + 2 ^ n} {m = tiles n} (omega (arith, power_wider n)) (omega (arith, power_wider n, pow_pos n)) ∙ omega (arith, power_wider n, pow_pos n))
 
-module _ {n es : ℕ} (f : Format n es) (z : Fraction) {r : SignedSum} (k : IsSignedSum es z r) {b : Bool} {x : ℕ} (e : r ≡ Something b x) where
+module _ {n es : ℕ} (f : Format n es) (z : Fraction) {r : Option (Signed ℕ)} (k : IsSignedSum es z r) {b : Bool} {x : ℕ} (e : r ≡ Some (record { negative = b; size = x })) where
   pub something_tile : {step w : ℕ} → StepOf n es x step → w ≡ tile_with_sign n b step → w ≡ start_tile_at n (cell_of n es z)
   something_tile s h =
       let t = something_known f z k e in

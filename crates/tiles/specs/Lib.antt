@@ -1,3 +1,4 @@
 pub mod Plain
 pub mod Across
 pub mod Spread
+pub mod Scaled

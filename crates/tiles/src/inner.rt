@@ -2,4 +2,5 @@
 pub mod across_results;
 pub mod plain;
 pub mod plain_results;
+pub mod right;
 pub mod spread;

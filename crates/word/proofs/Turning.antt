@@ -11,13 +11,7 @@ use Rattle.word.proofs.RealWords.{start_not_nar, end_not_nar}
 use Rattle.word.proofs.Turned.{turned}
 use Rattle.word.proofs.Negation.{turned_empty, turned_other}
 
-module _ (n : ℕ) {a : ℕ} (p : (3 ≤ n) × (n ≤ 16) × (Real n a)) where
-  wide : 3 ≤ n
-  wide = p.0
-
-  r : Real n a
-  r = p.2
-
+module _ (n : ℕ) (wide : 3 ≤ n) {a : ℕ} (r : Real n a) where
   module _ {s : ℕ} (e : s ≡ start_tile n a) where
     pub start_there : s < tiles n
     start_there = rw e (start_tile_of_word n wide r.fits)
@@ -26,9 +20,6 @@ module _ (n : ℕ) {a : ℕ} (p : (3 ≤ n) × (n ≤ 16) × (Real n a)) where
     start_turned_there k = rw (k, e) (turned n wide (start_tile_of_word n wide r.fits) (start_not_nar n wide r)).fits
 
   module _ {t : ℕ} (f : t ≡ end_tile n a) where
-    pub end_there : t < tiles n
-    end_there = rw f (end_tile_of_word n wide a)
-
     pub end_turned_there : {u : ℕ} → u ≡ turned_tile n t → u < tiles n
     end_turned_there k = rw (k, f) (turned n wide (end_tile_of_word n wide a) (end_not_nar n wide r)).fits
 

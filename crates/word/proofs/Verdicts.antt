@@ -2,25 +2,27 @@
 use mathlib.Core.Path.{◌≡◌, refl, sym, ap, ◌∙◌}
 use mathlib.Core.Bool.{Bool, true, false, not}
 use mathlib.Core.Logic.{◌≢◌}
-use mathlib.Core.List.{[], ◌∷◌}
+use mathlib.Core.List.{List, [], ◌∷◌}
 use Prim.Native.Nat.{ℕ, ◌≤◌, ◌<◌}
 use native.Mathlib.Decide.{ℕ_discrete}
-use lib.Dec.{leb}
-use borrow.Author.Tests.{le-leb, lt-leb, leb-true, leb-false, not-false}
+use borrow.Author.Tests.{le-leb, lt-leb, le-ltb, lt-ltb, leb-false, not-false}
 use Rattle.posit.specs.Format.{Format, is_format}
-use Rattle.call.specs.Verdict.{Verdict, done, first_hit, Says}
+use Rattle.call.specs.Verdict.{Verdict, Test, done, refused, first_hit}
 use Rattle.call.specs.Place.{left, right}
 use Rattle.posit.specs.Refusal.{format_test}
 use Rattle.call.proofs.FirstHit.{hits, passes, none_hits}
-use Rattle.call.proofs.Answered.{answers_done, refused_as_said}
+use Rattle.call.proofs.Answered.{accepts}
+use Rattle.call.proofs.Said.{refused_first}
+use Rattle.call.specs.Operation.{operation_test}
 use Rattle.posit.proofs.Verdicts.{format_of}
-use Rattle.call.proofs.Tests.{one_refuses, gives_none, head_passes, tail_passes, passing_of, passing_done, refusal_stays}
-use Rattle.word.specs.declared.answer.Reply.{Reply}
-use Rattle.call.specs.declared.judged.Judged.{Judged}
+use Rattle.call.proofs.Tests.{one_refuses, gives_none, head_passes, tail_passes, first_passes, passing_of, passing_done, refusal_stays}
+use Rattle.call.specs.declared.refusal.Refusal.{Refusal}
+use Rattle.posit.specs.declared.inner.format.Format as Format
+use Rattle.posit.proofs.Formats.{within}
 use Rattle.word.specs.Word.{words, kind, is_infinite}
 use Rattle.word.specs.Member.{Real}
-use Rattle.word.specs.Refusal.{verdict_of_range, verdict_of_ranges, word_test, infinity_test}
-use Rattle.word.specs.Calls.{verdict_of_word, Tells, ComparisonOf, done_reply, refused_reply}
+use Rattle.word.specs.Refusal.{verdict_of_range, verdict_of_ranges, verdict_of_words, verdict_of_operands, verdict_of_range_operation, operand_tests, divisor_test, word_test, infinity_test}
+use Rattle.word.specs.Calls.{verdict_of_word, Tells}
 
 -- ---- one word
 module _ (n place a : ℕ) where
@@ -41,22 +43,77 @@ module _ (n place a : ℕ) where
       let p = passing_of {ts = word_test n place a ∷ infinity_test n place a ∷ []} (one_refuses refl (one_refuses refl gives_none)) z in
       record { fits = leb-false (words n) a (head_passes p); no_infinity = head_passes (tail_passes p) }
 
--- a refused word is refused at every place by the same number
-module _ (n a : ℕ) (d : (verdict_of_word n left a).number ≢ 0) where
-  pub word_placed : (place : ℕ) → verdict_of_word n place a ≡ record { number = (verdict_of_word n left a).number; place = place }
-  word_placed place = by_size (leb (words n) a) refl
-    where
-      numbered : {k : ℕ} → verdict_of_word n place a ≡ record { number = k; place = place } → verdict_of_word n left a ≡ record { number = k; place = left }
-          → verdict_of_word n place a ≡ record { number = (verdict_of_word n left a).number; place = place }
-      numbered e f = e ∙ (λ i. record { number = sym (ap (λ (v : Verdict). v.number) f) i; place = place })
+  pub real_done : Real n a → verdict_of_word n place a ≡ done
+  real_done r = word_done r.fits r.no_infinity
 
-      by_kind : a < words n → (b : Bool) → is_infinite (kind n a) ≡ b → verdict_of_word n place a ≡ record { number = (verdict_of_word n left a).number; place = place }
-      by_kind h true e = numbered (word_infinite n place a h e) (word_infinite n left a h e)
-      by_kind h false e = absurd (d (ap (λ (v : Verdict). v.number) (word_done n left a h e)))
+-- ---- two words: the left one, then the right one
+module _ (n a b : ℕ) where
+  abbrev right_tests : List Test
+  right_tests = word_test n right b ∷ infinity_test n right b ∷ []
 
-      by_size : (b : Bool) → leb (words n) a ≡ b → verdict_of_word n place a ≡ record { number = (verdict_of_word n left a).number; place = place }
-      by_size true e = numbered (word_too_large n place a (leb-true (words n) a e)) (word_too_large n left a (leb-true (words n) a e))
-      by_size false e = by_kind (leb-false (words n) a e) (is_infinite (kind n a)) refl
+  pub words_by_left : (e : Refusal) → verdict_of_word n left a ≡ refused e → verdict_of_words n a b ≡ refused e
+  unfolding verdict_of_words
+  words_by_left e s = refused_first (word_test n left a ∷ infinity_test n left a ∷ []) right_tests e s
+
+  pub words_by_right : Real n a → verdict_of_words n a b ≡ verdict_of_word n right b
+  unfolding verdict_of_words
+  words_by_right r = passes (word_test n left a) _ (lt-leb (words n) a r.fits) ∙ passes (infinity_test n left a) _ r.no_infinity
+
+  pub words_done : Real n a → Real n b → verdict_of_words n a b ≡ done
+  words_done r q = words_by_right r ∙ real_done n right b q
+
+  pub words_real : verdict_of_words n a b ≡ done → Real n a × Real n b
+  unfolding verdict_of_words
+  words_real z =
+      let p = passing_of {ts = word_test n left a ∷ infinity_test n left a ∷ right_tests} (one_refuses refl (one_refuses refl (one_refuses refl (one_refuses refl gives_none)))) (accepts z) in
+      let q = tail_passes (tail_passes p) in (
+        record { fits = leb-false (words n) a (head_passes p); no_infinity = head_passes (tail_passes p) },
+        record { fits = leb-false (words n) b (head_passes q); no_infinity = head_passes (tail_passes q) },
+      )
+
+-- ---- a call of a format is judged by its words
+module _ {n es : ℕ} (f : Format n es) where
+  format_is : is_format n es ≡ true
+  format_is = rw (le-leb 3 n f.wide_enough, le-leb n 16 f.not_too_wide, le-leb es 2 f.exponent_fits)
+
+  pub range_judged : (a : ℕ) → verdict_of_range n es a ≡ verdict_of_word n left a
+  unfolding verdict_of_range
+  range_judged a = passes (format_test n es) _ (ap not format_is)
+
+  pub ranges_judged : (a b : ℕ) → verdict_of_ranges n es a b ≡ verdict_of_words n a b
+  unfolding verdict_of_ranges verdict_of_words
+  ranges_judged a b = passes (format_test n es) _ (ap not format_is)
+
+  pub operation_by_words : (op a b : ℕ) → op ≤ 3 → verdict_of_range_operation n es op a b ≡ verdict_of_operands n es op a b
+  unfolding verdict_of_range_operation verdict_of_operands
+  operation_by_words op a b l = passes (format_test n es) _ (ap not format_is) ∙ passes (operation_test op) _ (le-ltb 3 op l)
+
+  pub operation_by_number : (op a b : ℕ) → 3 < op → verdict_of_range_operation n es op a b ≡ record { number = 2; place = 0 }
+  unfolding verdict_of_range_operation
+  operation_by_number op a b h = passes (format_test n es) _ (ap not format_is) ∙ hits (operation_test op) _ (lt-ltb 3 op h)
+
+-- ---- the operands of an operation, after their own tests
+module _ (n es op a b : ℕ) where
+  abbrev divisors : List Test
+  divisors = divisor_test n es op b ∷ []
+
+  pub operands_by_words : Real n a → Real n b → verdict_of_operands n es op a b ≡ first_hit divisors
+  unfolding verdict_of_operands
+  operands_by_words r q =
+      passes (word_test n left a) _ (lt-leb (words n) a r.fits) ∙ passes (infinity_test n left a) _ r.no_infinity
+      ∙ passes (word_test n right b) _ (lt-leb (words n) b q.fits) ∙ passes (infinity_test n right b) _ q.no_infinity
+
+  pub operands_refused : (e : Refusal) → verdict_of_words n a b ≡ refused e → verdict_of_operands n es op a b ≡ refused e
+  unfolding verdict_of_words verdict_of_operands
+  operands_refused e s = refused_first (operand_tests n a b []) divisors e s
+
+  pub range_operation_outside : is_format n es ≡ false → verdict_of_range_operation n es op a b ≡ record { number = 1; place = 0 }
+  unfolding verdict_of_range_operation
+  range_operation_outside e = hits (format_test n es) _ (ap not e)
+
+  pub operation_format : (verdict_of_range_operation n es op a b).number ≡ 0 → Format n es
+  unfolding verdict_of_range_operation
+  operation_format z = format_of (not-false (is_format n es) (head_passes (first_passes {ts = format_test n es ∷ []} (one_refuses refl gives_none) _ z)))
 
 -- ---- one range
 module _ (n es a : ℕ) where
@@ -91,6 +148,10 @@ module _ (n es a : ℕ) where
 
 -- ---- two ranges
 module _ (n es a b : ℕ) where
+  pub ranges_outside : is_format n es ≡ false → verdict_of_ranges n es a b ≡ record { number = 1; place = 0 }
+  unfolding verdict_of_ranges
+  ranges_outside e = hits (format_test n es) _ (ap not e)
+
   pub ranges_left : (verdict_of_range n es a).number ≢ 0 → verdict_of_ranges n es a b ≡ verdict_of_range n es a
   unfolding verdict_of_range verdict_of_ranges
   ranges_left d =
@@ -127,17 +188,9 @@ module _ (n es a b : ℕ) where
       ranges_right (left_done z) ∙ word_done n right b r.fits r.no_infinity
 
 -- ---- the comparisons: P is one of the three
-module _ (P : ℕ → ℕ → ℕ → ℕ → Type 0) (n es a b : ℕ) {r : Judged} (s : Says (verdict_of_ranges n es a b) r) where
-  pub comparison_refused : {t : Reply} → r.number ≢ 0 → t ≡ refused_reply r.number r.place → ComparisonOf P n es a b t
-  comparison_refused d e = rw e (refused_as_said s d refl)
+module _ (P : ℕ → ℕ → ℕ → ℕ → Type 0) (a b : ℕ) {n es : ℕ} (f : Format.Format) (is : (n ≡ f.n) × (es ≡ f.es)) where
+  pub comparison_refused : (e : Refusal) → verdict_of_words f.n a b ≡ refused e → verdict_of_ranges n es a b ≡ refused e
+  comparison_refused e s = rw (is.0, is.1) (ranges_judged (within f) a b ∙ s)
 
-  -- what a comparison of cells asks
-  pub comparison_asks : r.number ≡ 0 → (3 ≤ n) × (n ≤ 16) × (Real n a) × (Real n b)
-  comparison_asks z =
-      let done_number : (verdict_of_ranges n es a b).number ≡ 0 = sym s.number ∙ z in
-      let f = ranges_format n es a b done_number in
-      let q = ranges_real n es a b done_number in
-      (f.wide_enough, f.not_too_wide, q.0, q.1)
-
-  pub comparison_done : {t : Reply} {yes : Bool} → r.number ≡ 0 → Tells (P n es a b) yes → t ≡ done_reply yes → ComparisonOf P n es a b t
-  comparison_done z y e = rw e (answers_done (ranges_done n es a b (sym s.number ∙ z)) y)
+  pub comparison_done : {yes : Bool} → verdict_of_words f.n a b ≡ done → Tells (P f.n f.es a b) yes → (verdict_of_ranges n es a b ≡ done) × Tells (P n es a b) yes
+  comparison_done z y = rw (is.0, is.1) (ranges_judged (within f) a b ∙ z, y)

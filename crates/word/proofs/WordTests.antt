@@ -2,9 +2,8 @@
 use mathlib.Core.Path.{◌≡◌, refl}
 use Prim.Native.Nat.{ℕ}
 use borrow.Author.Tests.{leb-false, lt-leb}
-use Rattle.call.specs.Verdict.{first_hit, Says}
-use Rattle.call.specs.declared.judged.Judged.{Judged}
-use Rattle.call.proofs.Said.{accepts}
+use Rattle.call.specs.Verdict.{Verdict, done, first_hit}
+use Rattle.call.proofs.Answered.{accepts}
 use Rattle.word.specs.Word.{words}
 use Rattle.word.specs.Member.{Real}
 use Rattle.word.specs.Calls.{verdict_of_word}
@@ -22,12 +21,12 @@ module _ (n place w : ℕ) where
   unfolding word_tests
   word_place = gives_one refl (gives_one refl gives_none)
 
-  pub word_says : {r : Judged} → Says (verdict_of_word n place w) r → Says (first_hit (word_tests n place w)) r
+  pub word_verdict : {v : Verdict} → verdict_of_word n place w ≡ v → first_hit (word_tests n place w) ≡ v
   unfolding word_tests
-  word_says s = s
+  word_verdict s = s
 
-  pub word_passing : {r : Judged} → Says (verdict_of_word n place w) r → r.number ≡ 0 → Passing (word_tests n place w)
-  word_passing s z = passing_of word_refusing (accepts (word_says s) z)
+  pub word_passing : verdict_of_word n place w ≡ done → Passing (word_tests n place w)
+  word_passing z = passing_of word_refusing (accepts (word_verdict z))
 
   pub passing_real : Passing (word_tests n place w) → Real n w
   unfolding word_tests

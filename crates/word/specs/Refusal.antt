@@ -29,6 +29,14 @@ divisor_test n es op w = record { hit = eqb op over && is_member n es w (whole (
 abbrev pub operand_tests : ℕ → ℕ → ℕ → List Test → List Test
 operand_tests n a b rest = word_test n left a ∷ infinity_test n left a ∷ word_test n right b ∷ infinity_test n right b ∷ rest
 
+-- two words of a format
+unfoldable pub verdict_of_words : ℕ → ℕ → ℕ → Verdict
+verdict_of_words n a b = first_hit (operand_tests n a b [])
+
+-- the operands of an operation
+unfoldable pub verdict_of_operands : ℕ → ℕ → ℕ → ℕ → ℕ → Verdict
+verdict_of_operands n es op a b = first_hit (operand_tests n a b (divisor_test n es op b ∷ []))
+
 -- negation, and a range going out
 unfoldable pub verdict_of_range : ℕ → ℕ → ℕ → Verdict
 verdict_of_range n es a = first_hit (format_test n es ∷ word_test n left a ∷ infinity_test n left a ∷ [])

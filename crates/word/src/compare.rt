@@ -1,66 +1,35 @@
 // The three comparisons of ranges.
-ghost use Rattle.std.specs.Prelude.{◌≡◌};
 ghost use Rattle.word.specs.Member.{Inside, Meets, Below};
-ghost use Rattle.word.specs.Calls.{ComparisonOf, done_reply, refused_reply};
+ghost use Rattle.word.specs.Calls.{ComparisonOf};
 
-use super::answer::Reply;
 use super::inner::cells::{cells_below, cells_inside, cells_meet};
-use super::inner::judge::judge_ranges;
-use call::number::DONE;
-use call::place::LEFT;
-
-fn refused(number: u32, place: u32) -> Reply
-    ensures { result ≡ refused_reply number place }
-{
-    Reply {
-        number: number,
-        place: place,
-        yes: false,
-    }
-}
-
-fn reply(yes: bool) -> Reply
-    ensures { result ≡ done_reply yes }
-{
-    Reply {
-        number: DONE,
-        place: LEFT,
-        yes: yes,
-    }
-}
+use super::inner::judge::judge_words;
+use call::refusal::Refusal;
+use posit::inner::format::Format;
 
 // Each member of a is in b.
-pub fn inside(n: u32, es: u32, a: u64, b: u64) -> Reply
+pub fn inside(n: u32, es: u32, a: u64, b: u64) -> Result<bool, Refusal>
     ensures { ComparisonOf Inside n es a b result }
 {
-    let verdict = judge_ranges(n, es, a, b);
-    let number = verdict.number;
-    if number != DONE {
-        return refused(number, verdict.place);
-    }
-    reply(cells_inside(n, es, a, b))
+    let f = Format::new(n, es)?;
+    judge_words(f, a, b)?;
+    Ok(cells_inside(f, a, b))
 }
 
 // Some member is in both.
-pub fn meets(n: u32, es: u32, a: u64, b: u64) -> Reply
+pub fn meets(n: u32, es: u32, a: u64, b: u64) -> Result<bool, Refusal>
     ensures { ComparisonOf Meets n es a b result }
 {
-    let verdict = judge_ranges(n, es, a, b);
-    let number = verdict.number;
-    if number != DONE {
-        return refused(number, verdict.place);
-    }
-    reply(cells_meet(n, es, a, b))
+    let f = Format::new(n, es)?;
+    judge_words(f, a, b)?;
+    Ok(cells_meet(f, a, b))
 }
 
 // Each member of a is less than each of b.
-pub fn below(n: u32, es: u32, a: u64, b: u64) -> Reply
+pub fn below(n: u32, es: u32, a: u64, b: u64) -> Result<bool, Refusal>
     ensures { ComparisonOf Below n es a b result }
 {
-    let verdict = judge_ranges(n, es, a, b);
-    let number = verdict.number;
-    if number != DONE {
-        return refused(number, verdict.place);
-    }
-    reply(cells_below(n, es, a, b))
+    let f = Format::new(n, es)?;
+    judge_words(f, a, b)?;
+    Ok(cells_below(f, a, b))
 }

@@ -1,27 +1,16 @@
 // The negation of a range.
 ghost use Rattle.word.specs.Calls.{NegationOf};
 
-use super::answer::WordAnswer;
-use super::inner::judge::judge_range;
+use super::inner::judge::judge_word;
 use super::inner::turn::turned;
-use call::number::DONE;
 use call::place::LEFT;
+use call::refusal::Refusal;
+use posit::inner::format::Format;
 
-pub fn negate(n: u32, es: u32, a: u64) -> WordAnswer
+pub fn negate(n: u32, es: u32, a: u64) -> Result<u64, Refusal>
     ensures { NegationOf n es a result }
 {
-    let verdict = judge_range(n, es, a);
-    let number = verdict.number;
-    if number != DONE {
-        return WordAnswer {
-            number: number,
-            place: verdict.place,
-            word: 0,
-        };
-    }
-    WordAnswer {
-        number: DONE,
-        place: LEFT,
-        word: turned(n, es, a),
-    }
+    let f = Format::new(n, es)?;
+    judge_word(f, LEFT, a)?;
+    Ok(turned(f, a))
 }

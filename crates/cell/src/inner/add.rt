@@ -2,7 +2,7 @@
 ghost use Rattle.std.specs.Prelude.{◌≡◌, ◌+◌, ◌*◌, ◌<◌, ◌≤◌};
 ghost use Rattle.exact.specs.Fraction.{◌+ᶠ◌};
 ghost use Rattle.posit.specs.Format as Spec;
-ghost use Rattle.posit.specs.Format.{Format, Finite};
+ghost use Rattle.posit.specs.Format.{Finite};
 ghost use Rattle.posit.specs.Value.{value};
 ghost use Rattle.word.specs.Numbered.{number_of};
 ghost use Rattle.word.specs.Member.{Real};
@@ -14,58 +14,53 @@ use super::cell::{above_zero, end_posit, start_posit, with_sign};
 use super::signed::signed_form;
 use code::inner::form::code_of;
 use code::inner::step::step_of;
-use code::inner::sum::{SignedSum, signed_sum, total};
+use code::inner::sum::{signed_sum, total};
+use posit::inner::format::Format;
 use posit::inner::power::power32;
+use posit::inner::signed::Signed;
 use word::inner::span::{Span, joined, top_cell, word_of};
 use word::inner::turn::turned;
 use word::inner::word::cells_of;
 
 // The cell of a finite posit alone.
-fn posit_cell(n: u32, p: u32) -> u32
-    requires { (3 ≤ n) × (n ≤ 16) × (Finite n p) }
-    ensures { result ≡ 2 * number_of n p + 1 }
+fn posit_cell(f: Format, p: u32) -> u32
+    requires { Finite f.n p }
+    ensures { result ≡ 2 * number_of f.n p + 1 }
 {
-    2 * ((p + power32(n - 1) - 1) % power32(n)) + 1
+    2 * ((p + power32(f.n - 1) - 1) % power32(f.n)) + 1
 }
 
 // The cell of the exact sum of two finite posits.
-fn sum_cell(n: u32, es: u32, p: u32, q: u32) -> u32
-    requires { (Format n es) × (Finite n p) × (Finite n q) }
-    ensures { result ≡ cell_of n es (value n es p +ᶠ value n es q) }
+fn sum_cell(f: Format, p: u32, q: u32) -> u32
+    requires { (Finite f.n p) × (Finite f.n q) }
+    ensures { result ≡ cell_of f.n f.es (value f.n f.es p +ᶠ value f.n f.es q) }
 {
     if p == 0 {
-        return posit_cell(n, q);
+        return posit_cell(f, q);
     }
     if q == 0 {
-        return posit_cell(n, p);
+        return posit_cell(f, p);
     }
-    let x = signed_form(n, es, p);
-    let y = signed_form(n, es, q);
-    match signed_sum(es, x.negative, x.size, y.negative, y.size) {
-        SignedSum::Nothing => power32(n) - 1,
-        SignedSum::Something { negative, size } => with_sign(
-            n,
-            negative,
-            above_zero(n, step_of(n, es, size)),
-        ),
+    let x = signed_form(f, p);
+    let y = signed_form(f, q);
+    match signed_sum(f, x, y) {
+        None => power32(f.n) - 1,
+        Some(Signed { negative, size }) => with_sign(f, negative, above_zero(f, step_of(f, size))),
     }
 }
 
 // The same of two posits above 0.
-pub fn total_cell(n: u32, es: u32, p: u32, q: u32) -> u32
-    requires { (Format n es) × (0 < p) × (p < Spec.nar n) × (0 < q) × (q < Spec.nar n) }
-    ensures { result ≡ cell_of n es (value n es p +ᶠ value n es q) }
+pub fn total_cell(f: Format, p: u32, q: u32) -> u32
+    requires { (0 < p) × (p < Spec.nar f.n) × (0 < q) × (q < Spec.nar f.n) }
+    ensures { result ≡ cell_of f.n f.es (value f.n f.es p +ᶠ value f.n f.es q) }
 {
-    above_zero(
-        n,
-        step_of(n, es, total(es, code_of(n, es, p), code_of(n, es, q))),
-    )
+    above_zero(f, step_of(f, total(f, code_of(f, p), code_of(f, q))))
 }
 
 // The first cell of all sums of a number from the start cell x up and one from y up: a posit where both are, else a gap.
-fn sum_start(n: u32, es: u32, x: u32, y: u32) -> u32
-    requires { (Format n es) × (x ≤ top_cell n) × (y ≤ top_cell n) }
-    ensures { result ≡ sum_start n es x y }
+fn sum_start(f: Format, x: u32, y: u32) -> u32
+    requires { (x ≤ top_cell f.n) × (y ≤ top_cell f.n) }
+    ensures { result ≡ sum_start f.n f.es x y }
 {
     if x == 0 {
         return 0;
@@ -73,64 +68,64 @@ fn sum_start(n: u32, es: u32, x: u32, y: u32) -> u32
     if y == 0 {
         return 0;
     }
-    let cell = sum_cell(n, es, start_posit(n, x), start_posit(n, y));
+    let cell = sum_cell(f, start_posit(f, x), start_posit(f, y));
     let gap = 1 - x % 2 * (y % 2);
     cell + cell % 2 * gap
 }
 
 // The last cell of all sums of a number up to the end cell x and one up to y.
-fn sum_end(n: u32, es: u32, x: u32, y: u32) -> u32
-    requires { (Format n es) × (x ≤ top_cell n) × (y ≤ top_cell n) }
-    ensures { result ≡ sum_end n es x y }
+fn sum_end(f: Format, x: u32, y: u32) -> u32
+    requires { (x ≤ top_cell f.n) × (y ≤ top_cell f.n) }
+    ensures { result ≡ sum_end f.n f.es x y }
 {
-    let top = top_cell(n);
+    let top = top_cell(f);
     if x == top {
         return top;
     }
     if y == top {
         return top;
     }
-    let cell = sum_cell(n, es, end_posit(n, x), end_posit(n, y));
+    let cell = sum_cell(f, end_posit(f, x), end_posit(f, y));
     let gap = 1 - x % 2 * (y % 2);
     cell - cell % 2 * gap
 }
 
 // The sum of two ranges by their cells.
-pub fn add_cells(n: u32, es: u32, x: Span, y: Span) -> u64
-    requires { (Format n es) × (Cells n x) × (Cells n y) }
-    ensures { result ≡ word_at n (sum_cells n es x y) }
+pub fn add_cells(f: Format, x: Span, y: Span) -> u64
+    requires { (Cells f.n x) × (Cells f.n y) }
+    ensures { result ≡ word_at f.n (sum_cells f.n f.es x y) }
 {
     if x.hi < x.lo {
-        return joined(n, 1, 1);
+        return joined(f, 1, 1);
     }
     if y.hi < y.lo {
-        return joined(n, 1, 1);
+        return joined(f, 1, 1);
     }
     let sums = Span {
-        lo: sum_start(n, es, x.lo, y.lo),
-        hi: sum_end(n, es, x.hi, y.hi),
+        lo: sum_start(f, x.lo, y.lo),
+        hi: sum_end(f, x.hi, y.hi),
     };
-    word_of(n, sums)
+    word_of(f, sums)
 }
 
 // The difference is the sum with the negated range.
-pub fn subtract_word(n: u32, es: u32, x: Span, b: u64) -> u64
-    requires { (Format n es) × (Cells n x) × (Real n b) }
-    ensures { result ≡ word_at n (sum_cells n es x (mirrored n (cells_of n b))) }
+pub fn subtract_word(f: Format, x: Span, b: u64) -> u64
+    requires { (Cells f.n x) × (Real f.n b) }
+    ensures { result ≡ word_at f.n (sum_cells f.n f.es x (mirrored f.n (cells_of f.n b))) }
 {
-    add_cells(n, es, x, cells_of(n, turned(n, es, b)))
+    add_cells(f, x, cells_of(f, turned(f, b)))
 }
 
-pub fn add_ranges(n: u32, es: u32, a: u64, b: u64) -> u64
-    requires { (Format n es) × (Real n a) × (Real n b) }
-    ensures { result ≡ answer_of n es 0 a b }
+pub fn add_ranges(f: Format, a: u64, b: u64) -> u64
+    requires { (Real f.n a) × (Real f.n b) }
+    ensures { result ≡ answer_of f.n f.es 0 a b }
 {
-    add_cells(n, es, cells_of(n, a), cells_of(n, b))
+    add_cells(f, cells_of(f, a), cells_of(f, b))
 }
 
-pub fn subtract_ranges(n: u32, es: u32, a: u64, b: u64) -> u64
-    requires { (Format n es) × (Real n a) × (Real n b) }
-    ensures { result ≡ answer_of n es 1 a b }
+pub fn subtract_ranges(f: Format, a: u64, b: u64) -> u64
+    requires { (Real f.n a) × (Real f.n b) }
+    ensures { result ≡ answer_of f.n f.es 1 a b }
 {
-    subtract_word(n, es, cells_of(n, a), b)
+    subtract_word(f, cells_of(f, a), b)
 }

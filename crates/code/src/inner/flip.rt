@@ -2,12 +2,10 @@
 ghost use Rattle.std.specs.Prelude.{◌≡◌, ◌-◌, ◌^◌, ◌≤◌};
 ghost use Rattle.posit.specs.Parts.{chosen_by};
 
-use std::num::wrapping_sub_u64;
-
 // x where the mark is 0, and all its bits turned over where it is 1.
 pub fn flipped(mark: u64, x: u64) -> u64
     requires { mark ≤ 1 }
     ensures { result ≡ chosen_by mark x (2 ^ 64 - 1 - x) }
 {
-    x ^ wrapping_sub_u64(0, mark)
+    x ^ mark.wrapping_neg()
 }

@@ -21,5 +21,5 @@ pub fn raised(x: u64, y: u64) -> u64
     ensures { result ≡ max x (y - 26 * 2 ^ 52) }
 {
     let least = f64::from_bits(y) * f64::from_bits(BELOW);
-    f64::to_bits(greater(f64::from_bits(x), least))
+    greater(f64::from_bits(x), least).to_bits()
 }

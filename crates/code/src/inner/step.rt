@@ -1,10 +1,10 @@
 // Where an exact result lies among the posits.
-ghost use Rattle.posit.specs.Format.{Format};
 ghost use Rattle.code.specs.Coded.{Fits};
 ghost use Rattle.code.specs.Step.{StepOf};
 
 use super::flip::flipped;
 use super::form::{BIAS, UNIT};
+use posit::inner::format::Format;
 use posit::inner::power::power;
 
 // 2 to the power of the number of a word's first bit.
@@ -30,17 +30,17 @@ const WORD: u32 = 64;
 const LOWEST: u64 = 63;
 
 // The way from a code to its pattern: the first bit closes the run, the tail stands behind it, and both are moved down by the length of the run.
-pub fn step_of(n: u32, es: u32, c: u64) -> u32
-    requires { (Format n es) × (Fits es c) }
-    ensures { StepOf n es c result }
+pub fn step_of(f: Format, c: u64) -> u32
+    requires { Fits f.es c }
+    ensures { StepOf f.n f.es c result }
 {
-    let lowest = (BIAS - REGIMES * power(es)) * UNIT;
-    let word = (c - lowest) * power(TO_REGIME - es);
+    let lowest = (BIAS - REGIMES * power(f.es)) * UNIT;
+    let word = (c - lowest) * power(TO_REGIME - f.es);
     let ones = word / FIRST;
     let z = flipped(ones, word);
     let closed = FIRST + z % REGIME * TO_TAIL;
     let pattern = flipped(ones, closed / power(WORD - (z / REGIME) as u32));
-    let unit = power(PLACES - n);
+    let unit = power(PLACES - f.n);
     let gap = LOWEST < pattern % unit;
     2 * (pattern / unit) as u32 + gap as u32
 }

@@ -1,15 +1,17 @@
 // The tests of the lengths of columns: 1, 2, 7 and 9, at place 0.
-ghost use Rattle.call.specs.Verdict.{first_hit, Says};
+ghost use Rattle.call.specs.Verdict.{first_hit, Answers};
 ghost use Rattle.column.specs.Column.{column_limits};
+ghost use Rattle.column.specs.Taken.{IsCallOf};
 
-use call::judged::{Judged, at_start};
-use call::number::{DONE, NO_OPERATION, NO_ROOM, OUTSIDE_LIMITS, WRONG_LENGTH};
-use call::operation::LAST_OPERATION;
-use posit::inner::format::is_format;
+use call::operation::Operation;
+use call::place::LEFT;
+use call::reason::Reason;
+use call::refusal::Refusal;
+use posit::inner::format::Format;
 
 pub const LONGEST_COLUMN: usize = 4096;
 
-// Columns of these lengths, written from a row on.
+// The format and the operation of a call on columns of these lengths, written from a row on.
 pub fn judge_columns(
     n: u32,
     es: u32,
@@ -18,26 +20,22 @@ pub fn judge_columns(
     right: usize,
     row: usize,
     lent: usize,
-) -> Judged
-    ensures { Says (first_hit (column_limits n es op left right row lent)) result }
+) -> Result<(Format, Operation), Refusal>
+    ensures { Answers (first_hit (column_limits n es op left right row lent)) (IsCallOf n es op) result }
 {
-    if !is_format(n, es) {
-        return at_start(OUTSIDE_LIMITS);
-    }
-    if LAST_OPERATION < op {
-        return at_start(NO_OPERATION);
-    }
+    let f = Format::new(n, es)?;
+    let op = Operation::try_from(op)?;
     if left != right {
-        return at_start(WRONG_LENGTH);
+        return Err(Reason::WrongLength.at(LEFT));
     }
     if LONGEST_COLUMN < left {
-        return at_start(WRONG_LENGTH);
+        return Err(Reason::WrongLength.at(LEFT));
     }
     if lent < row {
-        return at_start(NO_ROOM);
+        return Err(Reason::NoRoom.at(LEFT));
     }
     if lent - row < left {
-        return at_start(NO_ROOM);
+        return Err(Reason::NoRoom.at(LEFT));
     }
-    at_start(DONE)
+    Ok((f, op))
 }

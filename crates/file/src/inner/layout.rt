@@ -1,12 +1,17 @@
 // The layout of a sheet file: its own tests, and its words.
-ghost use Rattle.std.specs.Prelude.{◌≡◌, ◌+◌, ◌*◌, ◌≤◌, length, take, drop};
+ghost use Rattle.std.specs.Prelude.{◌≡◌, ◌/◌, ◌≤◌, length};
 ghost use Rattle.call.specs.Verdict.{first_hit, Says};
-ghost use Rattle.file.specs.File.{has_mark, number_of, words_of, file_tests};
+ghost use Rattle.file.specs.File.{words_of, file_tests};
 
-use call::judged::{Judged, at_start};
-use call::number::{BAD_FILE, DONE, OUTSIDE_LIMITS, WRONG_LENGTH};
-use posit::inner::format::is_format;
+use arrayvec::ArrayVec;
+use call::place::LEFT;
+use call::reason::Reason;
+use call::refusal::Refusal;
+use posit::inner::format::Format;
 use sheet::inner::limits::{MOST_INPUTS, MOST_STEPS, STEP_BYTES};
+
+// What a file begins with.
+const MARK: &[u8] = b"RSH";
 
 pub const HEAD_BYTES: usize = 9;
 
@@ -23,76 +28,45 @@ pub const INPUTS_AT: usize = 7;
 
 pub const STEPS_AT: usize = 8;
 
-pub const VERSION: u32 = 1;
-
-// Whether the first three bytes are "RSH".
-pub fn has_mark(file: &[u8]) -> bool
-    requires { 9 ≤ length file.now }
-    ensures { result ≡ has_mark file.now }
-{
-    if file[0] != b'R' {
-        return false;
-    }
-    if file[1] != b'S' {
-        return false;
-    }
-    file[2] == b'H'
-}
+pub const VERSION: u16 = 1;
 
 // The file's own tests, in their order.
-pub fn judge_file(file: &[u8]) -> Judged
+pub fn judge_file(file: &[u8]) -> Result<(), Refusal>
     ensures { Says (first_hit (file_tests file.now)) result }
 {
     if file.len() < HEAD_BYTES {
-        return at_start(BAD_FILE);
+        return Err(Reason::BadFile.at(LEFT));
     }
-    if !has_mark(file) {
-        return at_start(BAD_FILE);
+    if !file.starts_with(MARK) {
+        return Err(Reason::BadFile.at(LEFT));
     }
-    if file[VERSION_AT] as u32 + 256 * file[VERSION_AT + 1] as u32 != VERSION {
-        return at_start(BAD_FILE);
+    if u16::from_le_bytes([file[VERSION_AT], file[VERSION_AT + 1]]) != VERSION {
+        return Err(Reason::BadFile.at(LEFT));
     }
-    if !is_format(file[N_AT] as u32, file[ES_AT] as u32) {
-        return at_start(OUTSIDE_LIMITS);
-    }
-    let inputs = file[INPUTS_AT] as usize;
+    Format::new(u32::from(file[N_AT]), u32::from(file[ES_AT]))?;
+    let inputs = usize::from(file[INPUTS_AT]);
     if MOST_INPUTS < inputs {
-        return at_start(WRONG_LENGTH);
+        return Err(Reason::WrongLength.at(LEFT));
     }
-    let steps = file[STEPS_AT] as usize;
+    let steps = usize::from(file[STEPS_AT]);
     if MOST_STEPS < steps {
-        return at_start(WRONG_LENGTH);
+        return Err(Reason::WrongLength.at(LEFT));
     }
     if file.len() != HEAD_BYTES + WORD_BYTES * inputs + STEP_BYTES * steps {
-        return at_start(BAD_FILE);
+        return Err(Reason::BadFile.at(LEFT));
     }
-    at_start(DONE)
+    Ok(())
 }
 
-// The word of eight bytes from a place on, low byte first.
-pub fn read_word(bytes: &[u8], at: usize) -> u64
-    requires { at + 8 ≤ length bytes.now }
-    ensures { result ≡ number_of (take 8 (drop at bytes.now)) }
+// The words of some bytes, eight bytes each, low byte first.
+pub fn read_words(bytes: &[u8]) -> ArrayVec<u64, MOST_INPUTS>
+    requires { length bytes.now ≤ 256 }
+    ensures { result.items ≡ words_of (length bytes.now / 8) bytes.now }
 {
-    let mut word: u64 = 0;
-    let mut left: usize = WORD_BYTES;
-    while 0 < left {
-        word = bytes[at + left - 1] as u64 + 256 * word;
-        left -= 1;
-    }
-    word
-}
-
-// The first so many words of some bytes.
-pub fn read_words(count: usize, bytes: &[u8]) -> [u64; 32]
-    requires { (count ≤ 32) × (8 * count ≤ length bytes.now) }
-    ensures { (length result ≡ 32) × (take count result ≡ words_of count bytes.now) }
-{
-    let mut words = [0u64; 32];
-    let mut i: usize = 0;
-    while i < count {
-        words[i] = read_word(bytes, WORD_BYTES * i);
-        i += 1;
+    let (eights, _) = bytes.as_chunks::<WORD_BYTES>();
+    let mut words = ArrayVec::new();
+    for eight in eights {
+        words.push(u64::from_le_bytes(*eight));
     }
     words
 }

@@ -1,57 +1,68 @@
 // The sum and the difference of two posits, by cases on the decoded operands.
 ghost use Rattle.std.specs.Prelude.{◌^◌, ◌<◌};
-ghost use Rattle.posit.specs.Format.{Format};
 ghost use Rattle.call.specs.Operation.{plus, minus};
 ghost use Rattle.posit.specs.Operation.{Operates};
-ghost use Rattle.posit.specs.Magnitudes.{SmallForm, AddsFinite};
+ghost use Rattle.posit.specs.Magnitudes.{AddsFinite};
 
 use super::super::decoded::Decoded;
-use super::magnitude::round_magnitude;
+use super::finite::Finite;
+use super::format::Format;
 use super::power::{negated, power32};
-use super::sum::{Sum, exact_sum};
+use super::round::round_magnitude;
+use super::sum::exact_sum;
 use super::unpack::unpack;
 
-// The rounded sum of two finite numbers, g · 2^s and h · 2^t in size.
-fn add_finite(n: u32, es: u32, less: bool, s: i32, g: u32, under: bool, t: i32, h: u32) -> u32
-    requires { (Format n es) × (SmallForm s g) × (SmallForm t h) }
-    ensures { AddsFinite n es less s g under t h result }
+// The rounded sum of two numbers.
+fn add_finite(f: Format, x: Finite, y: Finite) -> u32
+    ensures { AddsFinite f.n f.es x y result }
 {
-    match exact_sum(less, s, g, under, t, h) {
-        Sum::Nothing => 0,
-        Sum::Something {
-            negative,
-            magnitude,
-        } => round_magnitude(n, es, negative, magnitude),
+    match exact_sum(x, y) {
+        None => 0,
+        Some(sum) => round_magnitude(f, sum.negative, sum.size),
     }
 }
 
-pub fn add_posits(n: u32, es: u32, p: u32, q: u32) -> u32
-    requires { (Format n es) × (p < 2 ^ n) × (q < 2 ^ n) }
-    ensures { Operates n es plus p q result }
+pub fn add_posits(f: Format, p: u32, q: u32) -> u32
+    requires { (p < 2 ^ f.n) × (q < 2 ^ f.n) }
+    ensures { Operates f.n f.es plus p q result }
 {
-    match unpack(n, es, p) {
-        Decoded::Nar => power32(n - 1),
+    match unpack(f, p) {
+        Decoded::Nar => power32(f.n - 1),
         Decoded::Zero => q,
         Decoded::Finite {
-            negative: less,
-            scale: s,
-            fraction: g,
-        } => match unpack(n, es, q) {
-            Decoded::Nar => power32(n - 1),
-            Decoded::Zero => p,
-            Decoded::Finite {
-                negative: under,
-                scale: t,
-                fraction: h,
-            } => add_finite(n, es, less, s, g, under, t, h),
-        },
+            negative,
+            scale,
+            fraction,
+        } => {
+            let x = Finite {
+                negative,
+                scale,
+                fraction,
+            };
+            match unpack(f, q) {
+                Decoded::Nar => power32(f.n - 1),
+                Decoded::Zero => p,
+                Decoded::Finite {
+                    negative,
+                    scale,
+                    fraction,
+                } => {
+                    let y = Finite {
+                        negative,
+                        scale,
+                        fraction,
+                    };
+                    add_finite(f, x, y)
+                }
+            }
+        }
     }
 }
 
 // The difference is the sum with the negated posit.
-pub fn subtract_posits(n: u32, es: u32, p: u32, q: u32) -> u32
-    requires { (Format n es) × (p < 2 ^ n) × (q < 2 ^ n) }
-    ensures { Operates n es minus p q result }
+pub fn subtract_posits(f: Format, p: u32, q: u32) -> u32
+    requires { (p < 2 ^ f.n) × (q < 2 ^ f.n) }
+    ensures { Operates f.n f.es minus p q result }
 {
-    add_posits(n, es, p, negated(n, q))
+    add_posits(f, p, negated(f.n, q))
 }

@@ -2,12 +2,10 @@
 ghost use Rattle.std.specs.Prelude.{◌≡◌, ◌≤◌};
 ghost use Rattle.posit.specs.Parts.{chosen_by};
 
-use std::num::{wrapping_add_u32, wrapping_sub_u32};
-
 // The first where the mark is 0, and the second where it is 1: the first, and the difference so many times.
 pub fn chosen(mark: u32, first: u32, second: u32) -> u32
     requires { mark ≤ 1 }
     ensures { result ≡ chosen_by mark first second }
 {
-    wrapping_add_u32(first, mark * wrapping_sub_u32(second, first))
+    first.wrapping_add(mark * second.wrapping_sub(first))
 }

@@ -1,35 +1,50 @@
 // The quotient of two posits, by cases on the decoded operands.
 ghost use Rattle.std.specs.Prelude.{◌^◌, ◌<◌};
-ghost use Rattle.posit.specs.Format.{Format};
 ghost use Rattle.call.specs.Operation.{over};
 ghost use Rattle.posit.specs.Operation.{Operates};
 
 use super::super::decoded::Decoded;
-use super::magnitude::round_magnitude;
+use super::finite::Finite;
+use super::format::Format;
 use super::power::power32;
 use super::quotient::quotient;
+use super::round::round_magnitude;
 use super::unpack::unpack;
 
-pub fn divide_posits(n: u32, es: u32, p: u32, q: u32) -> u32
-    requires { (Format n es) × (p < 2 ^ n) × (q < 2 ^ n) }
-    ensures { Operates n es over p q result }
+pub fn divide_posits(f: Format, p: u32, q: u32) -> u32
+    requires { (p < 2 ^ f.n) × (q < 2 ^ f.n) }
+    ensures { Operates f.n f.es over p q result }
 {
-    let nar = power32(n - 1);
-    match unpack(n, es, q) {
+    let nar = power32(f.n - 1);
+    match unpack(f, q) {
         Decoded::Nar => nar,
         Decoded::Zero => nar,
         Decoded::Finite {
-            negative: under,
-            scale: t,
-            fraction: h,
-        } => match unpack(n, es, p) {
-            Decoded::Nar => nar,
-            Decoded::Zero => 0,
-            Decoded::Finite {
-                negative: less,
-                scale: s,
-                fraction: g,
-            } => round_magnitude(n, es, less != under, quotient(s, g, t, h)),
-        },
+            negative,
+            scale,
+            fraction,
+        } => {
+            let y = Finite {
+                negative,
+                scale,
+                fraction,
+            };
+            match unpack(f, p) {
+                Decoded::Nar => nar,
+                Decoded::Zero => 0,
+                Decoded::Finite {
+                    negative,
+                    scale,
+                    fraction,
+                } => {
+                    let x = Finite {
+                        negative,
+                        scale,
+                        fraction,
+                    };
+                    round_magnitude(f, x.negative != y.negative, quotient(x, y))
+                }
+            }
+        }
     }
 }

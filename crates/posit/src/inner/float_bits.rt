@@ -1,12 +1,14 @@
 // The bits of 64-bit floats: a sign, eleven exponent bits and fifty-two fraction bits.
-ghost use Rattle.std.specs.Prelude.{◌≡◌, ◌%◌, ◌^◌, ◌<◌, from_bits};
+ghost use Rattle.std.specs.Prelude.{◌≡◌, ◌^◌, ◌<◌, from_bits};
 ghost use Rattle.std.specs.Float.{fin, binary64};
-ghost use Rattle.posit.specs.Format.{Format};
 ghost use Rattle.posit.specs.Floats.{FromFloat, PartsOfFloat, of_digits};
-ghost use Rattle.posit.specs.Magnitudes.{SmallForm, Knows};
+ghost use Rattle.posit.specs.Magnitudes.{Knows};
 
-use super::magnitude::{Magnitude, round_magnitude};
+use super::finite::Finite;
+use super::format::Format;
+use super::magnitude::Magnitude;
 use super::power::{highest_bit, power, power32};
+use super::round::round_magnitude;
 
 const SIGN: u64 = 0x8000_0000_0000_0000;
 
@@ -27,7 +29,7 @@ const SPARE_BITS: u64 = 16;
 const SPARE: u64 = 0x1_0000;
 
 // What the bits of a float that is no NaN say: an infinity, 0, or digits · 2^shift of the smallest float above 0, with a sign.
-#[derive(Clone, Copy)]
+#[derive(Clone, Copy, Debug, PartialEq, Eq)]
 pub enum FloatParts {
     Infinite,
     Nothing,
@@ -52,13 +54,13 @@ pub fn float_parts(bits: u64) -> FloatParts
     }
     if exponent == 0 {
         return FloatParts::Number {
-            negative: negative,
+            negative,
             digits: size,
             shift: 0,
         };
     }
     FloatParts::Number {
-        negative: negative,
+        negative,
         digits: HIDDEN + size % HIDDEN,
         shift: exponent - 1,
     }
@@ -86,30 +88,28 @@ pub fn digits_magnitude(digits: u64, shift: u64) -> Magnitude
 }
 
 // The posit that the float with these bits, which is no NaN, is rounded to.
-pub fn from_pattern(n: u32, es: u32, bits: u64) -> u32
-    requires { Format n es }
-    ensures { FromFloat n es (from_bits binary64 bits) result }
+pub fn from_pattern(f: Format, bits: u64) -> u32
+    ensures { FromFloat f.n f.es (from_bits binary64 bits) result }
 {
     match float_parts(bits) {
-        FloatParts::Infinite => power32(n - 1),
+        FloatParts::Infinite => power32(f.n - 1),
         FloatParts::Nothing => 0,
         FloatParts::Number {
             negative,
             digits,
             shift,
-        } => round_magnitude(n, es, negative, digits_magnitude(digits, shift)),
+        } => round_magnitude(f, negative, digits_magnitude(digits, shift)),
     }
 }
 
-// The float that is g · 2^s in size, with a sign.
-pub fn float_of(negative: bool, s: i32, g: u32) -> f64
-    requires { (SmallForm s g) × (g % 2 ≡ 1) }
-    ensures { result ≡ fin negative g s }
+// The float that is exactly x.
+pub fn float_of(x: Finite) -> f64
+    ensures { result ≡ fin x.negative x.fraction x.scale }
 {
-    let h = highest_bit(g as u64);
-    let exponent = (s + BIAS) as u64 + h as u64;
-    let size = exponent * HIDDEN + (g as u64 * power(52 - h) - HIDDEN);
-    if negative {
+    let h = highest_bit(x.fraction as u64);
+    let exponent = (x.scale + BIAS) as u64 + h as u64;
+    let size = exponent * HIDDEN + (x.fraction as u64 * power(52 - h) - HIDDEN);
+    if x.negative {
         return f64::from_bits(SIGN + size);
     }
     f64::from_bits(size)

@@ -1,36 +1,27 @@
-// The tests of a call on two posits: the format, then the left operand, then the right one.
-ghost use Rattle.posit.specs.Refusal.{verdict_of_two};
+// The test of a posit against its format.
 ghost use Rattle.call.specs.Verdict.{Says};
+ghost use Rattle.posit.specs.Refusal.{verdict_of_posit, verdict_of_posits};
 
-use super::format::is_format;
+use super::format::Format;
 use super::power::power32;
-use call::judged::Judged;
-use call::number::{DONE, OUTSIDE_LIMITS, TOO_LARGE};
 use call::place::{LEFT, RIGHT};
+use call::reason::Reason;
+use call::refusal::Refusal;
 
-pub fn judge(n: u32, es: u32, p: u32, q: u32) -> Judged
-    ensures { Says (verdict_of_two n es p q) result }
+// One posit, at a place.
+pub fn judge_posit(f: Format, place: u32, p: u32) -> Result<(), Refusal>
+    ensures { Says (verdict_of_posit f.n place p) result }
 {
-    if !is_format(n, es) {
-        return Judged {
-            number: OUTSIDE_LIMITS,
-            place: LEFT,
-        };
+    if power32(f.n) <= p {
+        return Err(Reason::TooLarge.at(place));
     }
-    if power32(n) <= p {
-        return Judged {
-            number: TOO_LARGE,
-            place: LEFT,
-        };
-    }
-    if power32(n) <= q {
-        return Judged {
-            number: TOO_LARGE,
-            place: RIGHT,
-        };
-    }
-    Judged {
-        number: DONE,
-        place: LEFT,
-    }
+    Ok(())
+}
+
+// The left operand, then the right one.
+pub fn judge_posits(f: Format, p: u32, q: u32) -> Result<(), Refusal>
+    ensures { Says (verdict_of_posits f.n p q) result }
+{
+    judge_posit(f, LEFT, p)?;
+    judge_posit(f, RIGHT, q)
 }

@@ -1,14 +1,15 @@
 // Where an exact magnitude lies among the patterns that are one bit longer than the format's.
 ghost use Rattle.std.specs.Prelude.{◌+◌, ◌-◌, ◌*◌, ◌^◌, ◌<◌, ◌≤◌};
-ghost use Rattle.posit.specs.Format.{Format};
 ghost use Rattle.posit.specs.Locating.{Locates};
 ghost use Rattle.posit.specs.Parts.{Cut, BehindRun};
 
 use super::choose::chosen;
+use super::format::Format;
+use super::magnitude::Magnitude;
 use super::power::{highest_bit, power, power32};
 
 // The largest pattern whose value is at most the magnitude, and whether it is the magnitude.
-#[derive(Clone, Copy)]
+#[derive(Clone, Copy, Debug, PartialEq, Eq)]
 pub struct Located {
     pub pattern: u32,
     pub exact: bool,
@@ -32,37 +33,36 @@ const TO_ONES: u32 = 33;
 const REACHED: u32 = 32;
 
 // The pattern of a regime with the tail x, without a jump on which run it has.
-fn behind_run(n: u32, regime: u32, width: u32, x: u64) -> Located
-    requires { (3 ≤ n) × (n ≤ 16) × (regime < 2 * (n - 1)) × (16 ≤ width) × (width < 64) × (x < 2 ^ width) }
-    ensures { BehindRun n regime width x result }
+fn behind_run(f: Format, regime: u32, width: u32, x: u64) -> Located
+    requires { (regime < 2 * (f.n - 1)) × (16 ≤ width) × (width < 64) × (x < 2 ^ width) }
+    ensures { BehindRun f.n regime width x result }
 {
-    let ones = (regime + TO_ONES - n) / REACHED;
-    let w = chosen(ones, regime, 2 * n - 3 - regime);
+    let ones = (regime + TO_ONES - f.n) / REACHED;
+    let w = chosen(ones, regime, 2 * f.n - 3 - regime);
     let unit = power32(w);
-    cut(chosen(ones, unit, power32(n) - 2 * unit), w, width, x)
+    cut(chosen(ones, unit, power32(f.n) - 2 * unit), w, width, x)
 }
 
-// Where g · 2^s / 2^a lies.
-pub fn locate(n: u32, es: u32, g: u64, s: u64, a: u64) -> Located
-    requires { (Format n es) × (2 ^ 16 ≤ g) × (g < 2 ^ 62) × (s < 2 ^ 32) × (a < 2 ^ 33) }
-    ensures { Locates n es g s a result.pattern result.exact }
+// Where the lower end of a magnitude lies.
+pub fn locate(f: Format, x: Magnitude) -> Located
+    ensures { Locates f.n f.es x.g x.s x.a result.pattern result.exact }
 {
-    let h = highest_bit(g);
-    let lift = s + h as u64 + (n as u64 - 1) * power(es);
-    if lift < a {
+    let h = highest_bit(x.g);
+    let lift = x.s + h as u64 + (f.n as u64 - 1) * power(f.es);
+    if lift < x.a {
         return Located {
             pattern: 0,
             exact: false,
         };
     }
-    let scale = lift - a;
-    let regime = scale / power(es);
-    let x = scale % power(es) * power(h) + (g - power(h));
-    if regime < 2 * (n as u64 - 1) {
-        return behind_run(n, regime as u32, h + es, x);
+    let scale = lift - x.a;
+    let regime = scale / power(f.es);
+    let tail = scale % power(f.es) * power(h) + (x.g - power(h));
+    if regime < 2 * (f.n as u64 - 1) {
+        return behind_run(f, regime as u32, h + f.es, tail);
     }
     Located {
-        pattern: power32(n) - 1,
-        exact: scale == 2 * (n as u64 - 1) * power(es) && g == power(h),
+        pattern: power32(f.n) - 1,
+        exact: scale == 2 * (f.n as u64 - 1) * power(f.es) && x.g == power(h),
     }
 }

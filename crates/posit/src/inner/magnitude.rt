@@ -1,31 +1,15 @@
-// A magnitude above 0 that is known to a word, and its rounding.
-ghost use Rattle.std.specs.Prelude.{Bool};
-ghost use Rattle.exact.specs.Fraction.{Fraction};
-ghost use Rattle.posit.specs.Format.{Format};
-ghost use Rattle.posit.specs.Rounding.{Rounds};
-ghost use Rattle.posit.specs.Magnitudes.{Words, RoundsEach};
-
-use super::locate::locate;
-use super::round::{rounded, with_sign};
+// A magnitude above 0 that is known to a word.
+ghost use Rattle.std.specs.Prelude.{◌^◌, ◌<◌, ◌≤◌};
 
 // From g · 2^s / 2^a to below (g + 1) · 2^s / 2^a; on the lower end itself unless something was lost below.
-#[derive(Clone, Copy)]
+#[derive(Clone, Copy, Debug, PartialEq, Eq)]
 pub struct Magnitude {
     pub g: u64,
     pub s: u64,
     pub a: u64,
     pub lost: bool,
-}
-
-// The posit that a magnitude with a sign is rounded to.
-pub fn round_magnitude(n: u32, es: u32, negative: bool, x: Magnitude) -> u32
-    requires { (Format n es) × (Words x) }
-    ensures { RoundsEach n es negative x result }
-{
-    let at = locate(n, es, x.g, x.s, x.a);
-    let lost = x.lost;
-    if lost {
-        return with_sign(n, negative, rounded(n, at.pattern, false));
-    }
-    with_sign(n, negative, rounded(n, at.pattern, at.exact))
+    pub ghost g_from: { 2 ^ 16 ≤ g },
+    pub ghost g_below: { g < 2 ^ 62 },
+    pub ghost s_below: { s < 2 ^ 32 },
+    pub ghost a_below: { a < 2 ^ 33 },
 }

@@ -1,40 +1,50 @@
 // The product of two posits, by cases on the decoded operands.
 ghost use Rattle.std.specs.Prelude.{◌^◌, ◌<◌};
-ghost use Rattle.posit.specs.Format.{Format};
 ghost use Rattle.call.specs.Operation.{times};
 ghost use Rattle.posit.specs.Operation.{Operates};
 
 use super::super::decoded::Decoded;
-use super::magnitude::round_magnitude;
+use super::finite::Finite;
+use super::format::Format;
 use super::power::power32;
 use super::product::product;
+use super::round::round_magnitude;
 use super::unpack::unpack;
 
-pub fn multiply_posits(n: u32, es: u32, p: u32, q: u32) -> u32
-    requires { (Format n es) × (p < 2 ^ n) × (q < 2 ^ n) }
-    ensures { Operates n es times p q result }
+pub fn multiply_posits(f: Format, p: u32, q: u32) -> u32
+    requires { (p < 2 ^ f.n) × (q < 2 ^ f.n) }
+    ensures { Operates f.n f.es times p q result }
 {
-    let nar = power32(n - 1);
-    match unpack(n, es, p) {
+    let nar = power32(f.n - 1);
+    match unpack(f, p) {
         Decoded::Nar => nar,
-        Decoded::Zero => {
-            if q == nar {
-                return nar;
-            }
-            0
-        }
+        Decoded::Zero => if q == nar { nar } else { 0 },
         Decoded::Finite {
-            negative: less,
-            scale: s,
-            fraction: g,
-        } => match unpack(n, es, q) {
-            Decoded::Nar => nar,
-            Decoded::Zero => 0,
-            Decoded::Finite {
-                negative: under,
-                scale: t,
-                fraction: h,
-            } => round_magnitude(n, es, less != under, product(s, g, t, h)),
-        },
+            negative,
+            scale,
+            fraction,
+        } => {
+            let x = Finite {
+                negative,
+                scale,
+                fraction,
+            };
+            match unpack(f, q) {
+                Decoded::Nar => nar,
+                Decoded::Zero => 0,
+                Decoded::Finite {
+                    negative,
+                    scale,
+                    fraction,
+                } => {
+                    let y = Finite {
+                        negative,
+                        scale,
+                        fraction,
+                    };
+                    round_magnitude(f, x.negative != y.negative, product(x, y))
+                }
+            }
+        }
     }
 }

@@ -1,9 +1,7 @@
 // Powers of two, the highest set bit, and the wrapping negation of a pattern.
-ghost use Rattle.std.specs.Prelude.{◌≡◌, ◌+◌, ◌^◌, ◌<◌, ◌≤◌};
+ghost use Rattle.std.specs.Prelude.{◌≡◌, ◌+◌, ◌^◌, ◌<◌};
 ghost use Rattle.posit.specs.Format as Spec;
 ghost use Rattle.posit.specs.Parts.{HighestBit};
-
-use std::num::wrapping_sub_u32;
 
 // 2^k in one word.
 pub fn power(k: u32) -> u64
@@ -26,7 +24,7 @@ pub fn highest_bit(x: u64) -> u32
     requires { 0 < x }
     ensures { HighestBit x result }
 {
-    63 - u64::leading_zeros(x)
+    x.ilog2()
 }
 
 // The pattern p of n bits negated, wrapping at n bits.
@@ -34,5 +32,5 @@ pub fn negated(n: u32, p: u32) -> u32
     requires { (n < 32) × (p < 2 ^ n) }
     ensures { result ≡ Spec.negated n p }
 {
-    wrapping_sub_u32(0, p) % power32(n)
+    p.wrapping_neg() % power32(n)
 }

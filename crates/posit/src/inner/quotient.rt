@@ -1,6 +1,7 @@
-// The quotient of two decoded magnitudes, with a mark for its remainder.
-ghost use Rattle.posit.specs.Magnitudes.{SmallForm, QuotientOf};
+// The quotient of the sizes of two numbers, with a mark for its remainder.
+ghost use Rattle.posit.specs.Magnitudes.{QuotientOf};
 
+use super::finite::Finite;
 use super::magnitude::Magnitude;
 
 // Zero bits put below the dividend, so that the quotient has as many as `locate` asks for, and 2 to that power.
@@ -11,17 +12,16 @@ const SPARE: u64 = 0x8000_0000_0000;
 // Scales are counted from 2^-OFFSET, below that of every posit.
 const OFFSET: i32 = 56;
 
-// g · 2^s over h · 2^t.
-pub fn quotient(s: i32, g: u32, t: i32, h: u32) -> Magnitude
-    requires { (SmallForm s g) × (SmallForm t h) }
-    ensures { QuotientOf s g t h result }
+// The size of x over that of y.
+pub fn quotient(x: Finite, y: Finite) -> Magnitude
+    ensures { QuotientOf x y result }
 {
-    let dividend = g as u64 * SPARE;
-    let divisor = h as u64;
+    let dividend = x.fraction as u64 * SPARE;
+    let divisor = y.fraction as u64;
     Magnitude {
         g: dividend / divisor,
-        s: (s + OFFSET) as u64,
-        a: (t + OFFSET) as u64 + SPARE_BITS,
+        s: (x.scale + OFFSET) as u64,
+        a: (y.scale + OFFSET) as u64 + SPARE_BITS,
         lost: dividend % divisor != 0,
     }
 }

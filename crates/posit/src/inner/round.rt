@@ -2,20 +2,24 @@
 ghost use Rattle.std.specs.Prelude.{◌≡◌, ◌+◌, ◌^◌, ◌<◌, ◌≤◌};
 ghost use Rattle.posit.specs.Format as Spec;
 ghost use Rattle.posit.specs.Parts.{rounded_of, with_sign};
+ghost use Rattle.posit.specs.Magnitudes.{RoundsEach};
 
+use super::format::Format;
+use super::locate::locate;
+use super::magnitude::Magnitude;
 use super::power::{negated, power32};
 
 // The posit that a magnitude above 0 is rounded to, from its floor among the patterns one bit longer and whether that is exact: from an odd
 // floor up, unless the magnitude is on it and the lower posit is even. No jump depends on which it is.
-pub fn rounded(n: u32, floor: u32, exact: bool) -> u32
-    requires { (3 ≤ n) × (n ≤ 16) × (floor < 2 ^ n) }
-    ensures { result ≡ rounded_of n floor exact }
+pub fn rounded(f: Format, floor: u32, exact: bool) -> u32
+    requires { floor < 2 ^ f.n }
+    ensures { result ≡ rounded_of f.n floor exact }
 {
     let half = floor / 2;
     if half == 0 {
         return 1;
     }
-    if half == power32(n - 1) - 1 {
+    if half == power32(f.n - 1) - 1 {
         return half;
     }
     let stays = exact as u32 * (1 - half % 2);
@@ -23,9 +27,20 @@ pub fn rounded(n: u32, floor: u32, exact: bool) -> u32
 }
 
 // The posit p, or its negative.
-pub fn with_sign(n: u32, negative: bool, p: u32) -> u32
-    requires { (n < 32) × (p < 2 ^ n) }
-    ensures { result ≡ with_sign n negative p }
+pub fn with_sign(f: Format, negative: bool, p: u32) -> u32
+    requires { p < 2 ^ f.n }
+    ensures { result ≡ with_sign f.n negative p }
 {
-    if negative { negated(n, p) } else { p }
+    if negative { negated(f.n, p) } else { p }
+}
+
+// The posit that a magnitude with a sign is rounded to.
+pub fn round_magnitude(f: Format, negative: bool, x: Magnitude) -> u32
+    ensures { RoundsEach f.n f.es negative x result }
+{
+    let at = locate(f, x);
+    if x.lost {
+        return with_sign(f, negative, rounded(f, at.pattern, false));
+    }
+    with_sign(f, negative, rounded(f, at.pattern, at.exact))
 }

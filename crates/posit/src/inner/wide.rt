@@ -16,7 +16,7 @@ const SPARE_BITS: u64 = 16;
 const SPARE: u64 = 0x1_0000;
 
 // high · 2^64 + low.
-#[derive(Clone, Copy)]
+#[derive(Clone, Copy, Debug, PartialEq, Eq)]
 pub struct Wide {
     pub high: u64,
     pub low: u64,

@@ -1,22 +1,23 @@
-// The operation of a number on two real ranges.
-ghost use Rattle.std.specs.Prelude.{◌≡◌, ◌≤◌};
-ghost use Rattle.posit.specs.Format.{Format};
+// The operation on two real ranges.
+ghost use Rattle.std.specs.Prelude.{◌≡◌};
+ghost use Rattle.call.specs.Operation.{number_of};
 ghost use Rattle.word.specs.Member.{Real};
 ghost use Rattle.word.specs.Computed.{answer_of};
 
+use call::operation::Operation;
 use cell::inner::add::{add_ranges, subtract_ranges};
+use posit::inner::format::Format;
 use signs::inner::divide::divide_ranges;
 use signs::inner::multiply::multiply_ranges;
 
-// 0 add, 1 subtract, 2 multiply, 3 divide.
-pub fn operate_words(n: u32, es: u32, op: u8, a: u64, b: u64) -> u64
-    requires { (Format n es) × (op ≤ 3) × (Real n a) × (Real n b) }
-    ensures { result ≡ answer_of n es op a b }
+pub fn operate_words(f: Format, op: Operation, a: u64, b: u64) -> u64
+    requires { (Real f.n a) × (Real f.n b) }
+    ensures { result ≡ answer_of f.n f.es (number_of op) a b }
 {
     match op {
-        0 => add_ranges(n, es, a, b),
-        1 => subtract_ranges(n, es, a, b),
-        2 => multiply_ranges(n, es, a, b),
-        3..=255 => divide_ranges(n, es, a, b),
+        Operation::Add => add_ranges(f, a, b),
+        Operation::Subtract => subtract_ranges(f, a, b),
+        Operation::Multiply => multiply_ranges(f, a, b),
+        Operation::Divide => divide_ranges(f, a, b),
     }
 }

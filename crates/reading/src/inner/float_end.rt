@@ -2,13 +2,14 @@
 ghost use Rattle.std.specs.Prelude.{◌≡◌, Bool, false, ◌≢◌, ◌<◌, eqb};
 ghost use Rattle.std.specs.Float.Ieee.{is_nan};
 ghost use Rattle.std.specs.Float.{inf};
-ghost use Rattle.posit.specs.Format.{Format};
 ghost use Rattle.word.specs.Word.{tiles, closed_nar, mark_of, end_of_tile};
 ghost use Rattle.reading.specs.Reading.{bad_reading, FloatCell, EndOut};
 
 use cell::inner::cell::cell_of;
 use posit::decoded::Decoded;
+use posit::inner::finite::Finite;
 use posit::inner::float_bits::{FloatParts, digits_magnitude, float_of, float_parts};
+use posit::inner::format::Format;
 use posit::inner::power::power32;
 use posit::inner::unpack::unpack;
 
@@ -20,34 +21,31 @@ const MINUS_INFINITY: u64 = 0xfff0_0000_0000_0000;
 pub fn bad_reading(low: f64, high: f64) -> bool
     ensures { result ≡ bad_reading low high }
 {
-    if low != low {
+    if low.is_nan() || high.is_nan() {
         return true;
     }
-    if high != high {
+    if low.to_bits() == PLUS_INFINITY {
         return true;
     }
-    if f64::to_bits(low) == PLUS_INFINITY {
-        return true;
-    }
-    if f64::to_bits(high) == MINUS_INFINITY {
+    if high.to_bits() == MINUS_INFINITY {
         return true;
     }
     high < low
 }
 
 // The cell of a float that is no NaN; of an infinity the given one.
-pub fn float_cell(n: u32, es: u32, x: f64, unbounded: u32) -> u32
-    requires { (Format n es) × (is_nan x ≡ false) }
-    ensures { FloatCell n es unbounded x result }
+pub fn float_cell(f: Format, x: f64, unbounded: u32) -> u32
+    requires { is_nan x ≡ false }
+    ensures { FloatCell f.n f.es unbounded x result }
 {
-    match float_parts(f64::to_bits(x)) {
+    match float_parts(x.to_bits()) {
         FloatParts::Infinite => unbounded,
-        FloatParts::Nothing => power32(n) - 1,
+        FloatParts::Nothing => power32(f.n) - 1,
         FloatParts::Number {
             negative,
             digits,
             shift,
-        } => cell_of(n, es, negative, digits_magnitude(digits, shift)),
+        } => cell_of(f, negative, digits_magnitude(digits, shift)),
     }
 }
 
@@ -61,17 +59,21 @@ fn infinity(negative: bool) -> f64
 }
 
 // The float of a tile: its posit's exact value, or the infinity of its side for an open NaR.
-pub fn end_float(n: u32, es: u32, negative: bool, tile: u32) -> f64
-    requires { (Format n es) × (tile < tiles n) × (tile ≢ closed_nar n) }
-    ensures { EndOut n es negative (end_of_tile n tile) result (eqb (mark_of tile) 1) }
+pub fn end_float(f: Format, negative: bool, tile: u32) -> f64
+    requires { (tile < tiles f.n) × (tile ≢ closed_nar f.n) }
+    ensures { EndOut f.n f.es negative (end_of_tile f.n tile) result (eqb (mark_of tile) 1) }
 {
-    match unpack(n, es, tile / 2) {
+    match unpack(f, tile / 2) {
         Decoded::Zero => 0.0,
         Decoded::Nar => infinity(negative),
         Decoded::Finite {
             negative,
             scale,
             fraction,
-        } => float_of(negative, scale, fraction),
+        } => float_of(Finite {
+            negative,
+            scale,
+            fraction,
+        }),
     }
 }

@@ -1,11 +1,12 @@
 // The tests of the lengths of a sheet: 1, 7 and 9, at place 0.
-ghost use Rattle.call.specs.Verdict.{first_hit, Says};
+ghost use Rattle.call.specs.Verdict.{first_hit, Answers};
 ghost use Rattle.sheet.specs.Sheet.{sheet_limits};
+ghost use Rattle.sheet.specs.Working.{IsOf};
 
-use call::judged::{Judged, at_start};
-use call::number::{DONE, NO_OPERATION, NO_ROOM, OUTSIDE_LIMITS, WRONG_LENGTH};
-use call::operation::LAST_OPERATION;
-use posit::inner::format::is_format;
+use call::place::LEFT;
+use call::reason::Reason;
+use call::refusal::Refusal;
+use posit::inner::format::Format;
 
 pub const MOST_INPUTS: usize = 32;
 
@@ -13,24 +14,28 @@ pub const MOST_STEPS: usize = 64;
 
 pub const STEP_BYTES: usize = 3;
 
-// A sheet of so many inputs and bytes of steps.
-pub fn judge_sheet(n: u32, es: u32, inputs: usize, bytes: usize, lent: usize) -> Judged
-    ensures { Says (first_hit (sheet_limits n es inputs bytes lent)) result }
+// The format of a sheet of so many inputs and bytes of steps.
+pub fn judge_sheet(
+    n: u32,
+    es: u32,
+    inputs: usize,
+    bytes: usize,
+    lent: usize,
+) -> Result<Format, Refusal>
+    ensures { Answers (first_hit (sheet_limits n es inputs bytes lent)) (IsOf n es) result }
 {
-    if !is_format(n, es) {
-        return at_start(OUTSIDE_LIMITS);
-    }
+    let f = Format::new(n, es)?;
     if MOST_INPUTS < inputs {
-        return at_start(WRONG_LENGTH);
+        return Err(Reason::WrongLength.at(LEFT));
     }
     if MOST_STEPS < bytes / STEP_BYTES {
-        return at_start(WRONG_LENGTH);
+        return Err(Reason::WrongLength.at(LEFT));
     }
     if bytes % STEP_BYTES != 0 {
-        return at_start(WRONG_LENGTH);
+        return Err(Reason::WrongLength.at(LEFT));
     }
     if lent < inputs + bytes / STEP_BYTES {
-        return at_start(NO_ROOM);
+        return Err(Reason::NoRoom.at(LEFT));
     }
-    at_start(DONE)
+    Ok(f)
 }

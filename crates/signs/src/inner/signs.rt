@@ -1,44 +1,25 @@
 // Products and quotients of ranges by the signs of their members.
-ghost use Rattle.std.specs.Prelude.{◌≡◌, ◌^◌, ◌<◌, ◌≤◌, min, max};
-ghost use Rattle.posit.specs.Format.{Format};
+ghost use Rattle.std.specs.Prelude.{◌≡◌, ◌^◌, ◌<◌, ◌≤◌};
 ghost use Rattle.word.specs.Spans.{top_cell, Cells};
 ghost use Rattle.signs.specs.Signs.{part_above, PartAbove, hull_of, turned_cells, either_sign, signed_results, has_zero, has_other, zero_if};
 
-use super::positive::positive_results;
+use super::parts::positive_results;
+use super::scaling::Scaling;
+use posit::inner::format::Format;
 use posit::inner::power::power32;
 use word::inner::span::{Span, mirror, no_cells, top_cell};
 
-// The lesser and the greater of two numbers.
-fn least(a: u32, b: u32) -> u32
-    ensures { result ≡ min a b }
-{
-    if a < b {
-        return a;
-    }
-    b
-}
-
-fn greatest(a: u32, b: u32) -> u32
-    ensures { result ≡ max a b }
-{
-    if a < b {
-        return b;
-    }
-    a
-}
-
 // The cells above that of 0.
-fn part_above(n: u32, s: Span) -> Span
-    requires { n ≤ 16 }
-    ensures { result ≡ part_above n s }
+fn part_above(f: Format, s: Span) -> Span
+    ensures { result ≡ part_above f.n s }
 {
-    let first = power32(n);
+    let first = power32(f.n);
     let hi = s.hi;
     if hi < first {
-        return no_cells(n);
+        return no_cells(f);
     }
     Span {
-        lo: greatest(s.lo, first),
+        lo: s.lo.max(first),
         hi: hi,
     }
 }
@@ -48,21 +29,21 @@ pub fn hull(a: Span, b: Span) -> Span
     ensures { result ≡ hull_of a b }
 {
     Span {
-        lo: least(a.lo, b.lo),
-        hi: greatest(a.hi, b.hi),
+        lo: a.lo.min(b.lo),
+        hi: a.hi.max(b.hi),
     }
 }
 
 // The cells of the negatives.
-pub fn turned_cells(n: u32, s: Span) -> Span
-    requires { (n ≤ 16) × (Cells n s) }
-    ensures { result ≡ turned_cells n s }
+pub fn turned_cells(f: Format, s: Span) -> Span
+    requires { Cells f.n s }
+    ensures { result ≡ turned_cells f.n s }
 {
-    let top = top_cell(n);
+    let top = top_cell(f);
     let lo = s.lo;
     let hi = s.hi;
     if top < lo {
-        return no_cells(n);
+        return no_cells(f);
     }
     Span {
         lo: top - hi,
@@ -71,56 +52,53 @@ pub fn turned_cells(n: u32, s: Span) -> Span
 }
 
 // The results of a part above 0 and an operand that is split into its part above 0 and the negatives of its part below.
-fn either_sign(n: u32, es: u32, divide: bool, p: Span, above: Span, below: Span) -> Span
-    requires { (Format n es) × (PartAbove n p) × (PartAbove n above) × (PartAbove n below) }
-    ensures { result ≡ either_sign n es divide p above below }
+fn either_sign<S: Scaling>(f: Format, p: Span, above: Span, below: Span) -> Span
+    requires { (PartAbove f.n p) × (PartAbove f.n above) × (PartAbove f.n below) }
+    ensures { result ≡ either_sign f.n f.es S.divides p above below }
 {
-    let direct = positive_results(n, es, divide, p, above);
-    let across = positive_results(n, es, divide, p, below);
-    hull(direct, turned_cells(n, across))
+    let direct = positive_results::<S>(f, p, above);
+    let across = positive_results::<S>(f, p, below);
+    hull(direct, turned_cells(f, across))
 }
 
 // The results of the members other than 0.
-pub fn signed_results(n: u32, es: u32, divide: bool, a: Span, b: Span) -> Span
-    requires { (Format n es) × (Cells n a) × (Cells n b) × (a.lo ≤ top_cell n → a.lo ≤ a.hi) × (b.lo ≤ top_cell n → b.lo ≤ b.hi) }
-    ensures { result ≡ signed_results n es divide a b }
+pub fn signed_results<S: Scaling>(f: Format, a: Span, b: Span) -> Span
+    requires { (Cells f.n a) × (Cells f.n b) × (a.lo ≤ top_cell f.n → a.lo ≤ a.hi) × (b.lo ≤ top_cell f.n → b.lo ≤ b.hi) }
+    ensures { result ≡ signed_results f.n f.es S.divides a b }
 {
-    let above = part_above(n, b);
-    let below = part_above(n, mirror(n, b));
-    let direct = either_sign(n, es, divide, part_above(n, a), above, below);
-    let across = either_sign(n, es, divide, part_above(n, mirror(n, a)), above, below);
-    hull(direct, turned_cells(n, across))
+    let above = part_above(f, b);
+    let below = part_above(f, mirror(f, b));
+    let direct = either_sign::<S>(f, part_above(f, a), above, below);
+    let across = either_sign::<S>(f, part_above(f, mirror(f, a)), above, below);
+    hull(direct, turned_cells(f, across))
 }
 
 // Whether 0 is a member.
-pub fn has_zero(n: u32, s: Span) -> bool
-    requires { n ≤ 16 }
-    ensures { result ≡ has_zero n s }
+pub fn has_zero(f: Format, s: Span) -> bool
+    ensures { result ≡ has_zero f.n s }
 {
-    let zero = power32(n) - 1;
+    let zero = power32(f.n) - 1;
     s.lo <= zero && zero <= s.hi
 }
 
 // Whether a number other than 0 is.
-pub fn has_other(n: u32, s: Span) -> bool
-    requires { n ≤ 16 }
-    ensures { result ≡ has_other n s }
+pub fn has_other(f: Format, s: Span) -> bool
+    ensures { result ≡ has_other f.n s }
 {
-    let first = power32(n);
+    let first = power32(f.n);
     first <= s.hi || s.lo < first - 1
 }
 
 // The cell of 0, if there is a member for each operand.
-pub fn zero_if(n: u32, left: bool, right: bool) -> Span
-    requires { n ≤ 16 }
-    ensures { result ≡ zero_if n left right }
+pub fn zero_if(f: Format, left: bool, right: bool) -> Span
+    ensures { result ≡ zero_if f.n left right }
 {
     if left {
         if right {
-            let zero = power32(n) - 1;
+            let zero = power32(f.n) - 1;
             return Span { lo: zero, hi: zero };
         }
-        return no_cells(n);
+        return no_cells(f);
     }
-    no_cells(n)
+    no_cells(f)
 }

@@ -4,6 +4,7 @@ ghost use Rattle.text.specs.Put.{Put};
 ghost use Rattle.text.specs.Text.{digit, mark_byte, decimal, field, end_fields, range_fields};
 
 use super::put::put;
+use posit::inner::format::Format;
 use posit::inner::power::power;
 
 const DECIMAL_DIGITS: u64 = 10;
@@ -57,11 +58,11 @@ pub fn put_number(number: u32, at: usize, buffer: &mut [u8]) -> usize
 }
 
 // Both ends of a range, a space before each field.
-pub fn put_ends(n: u32, word: u64, at: usize, buffer: &mut [u8]) -> usize
-    requires { (n ≤ 16) × (at + 14 ≤ length buffer.old) }
-    ensures { Put at (range_fields n word) buffer.old buffer.new result }
+pub fn put_ends(f: Format, word: u64, at: usize, buffer: &mut [u8]) -> usize
+    requires { at + 14 ≤ length buffer.old }
+    ensures { Put at (range_fields f.n word) buffer.old buffer.new result }
 {
-    let tiles = power(n + 1);
+    let tiles = power(f.n + 1);
     let start = end_fields(word / tiles);
     let end = end_fields(word % tiles);
     let started = put(&start, at, buffer);

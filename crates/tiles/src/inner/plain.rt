@@ -2,8 +2,8 @@
 ghost use Rattle.std.specs.Prelude.{◌≡◌, ◌^◌, ◌≤◌, nat_lt};
 ghost use Rattle.tiles.specs.Plain.{is_plain};
 
+use posit::inner::format::Format;
 use posit::inner::power::power;
-use std::num::wrapping_sub_u64;
 
 // The tile of an open 0, at which a plain range may start.
 pub const OPEN_ZERO: u32 = 1;
@@ -12,16 +12,13 @@ pub const OPEN_ZERO: u32 = 1;
 pub const FIRST_PLACE: u32 = 63;
 
 // Below 2^63 exactly where a word is such a range: each number joined here passes it where one test fails, that of the start, of the order, and of the end.
-pub fn plain_fault(n: u32, w: u64) -> u64
-    requires { (3 ≤ n) × (n ≤ 16) }
-    ensures { nat_lt result (2 ^ 63) ≡ is_plain n w }
+pub fn plain_fault(f: Format, w: u64) -> u64
+    ensures { nat_lt result (2 ^ 63) ≡ is_plain f.n w }
 {
-    let all = power(n + 1);
+    let all = power(f.n + 1);
     let start = w / all;
     let open = w % 2;
     // the end tile, less two where it is open: below 0 for an open 0
-    let end = wrapping_sub_u64(w % all - open, open);
-    wrapping_sub_u64(start, OPEN_ZERO as u64)
-        | wrapping_sub_u64(end, start)
-        | (w << (FIRST_PLACE - n))
+    let end = (w % all - open).wrapping_sub(open);
+    start.wrapping_sub(OPEN_ZERO as u64) | end.wrapping_sub(start) | (w << (FIRST_PLACE - f.n))
 }

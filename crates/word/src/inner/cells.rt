@@ -4,51 +4,31 @@ ghost use Rattle.word.specs.Member.{Real, Inside, Meets, Below};
 ghost use Rattle.word.specs.Calls.{Tells};
 
 use super::word::cells_of;
+use posit::inner::format::Format;
 
-pub fn cells_inside(n: u32, es: u32, a: u64, b: u64) -> bool
-    requires { (3 ≤ n) × (n ≤ 16) × (Real n a) × (Real n b) }
-    ensures { Tells (Inside n es a b) result }
+pub fn cells_inside(f: Format, a: u64, b: u64) -> bool
+    requires { (Real f.n a) × (Real f.n b) }
+    ensures { Tells (Inside f.n f.es a b) result }
 {
-    let x = cells_of(n, a);
-    let y = cells_of(n, b);
-    if x.hi < x.lo {
-        return true;
-    }
-    if x.lo < y.lo {
-        return false;
-    }
-    x.hi <= y.hi
+    let x = cells_of(f, a);
+    let y = cells_of(f, b);
+    x.hi < x.lo || (y.lo <= x.lo && x.hi <= y.hi)
 }
 
-pub fn cells_meet(n: u32, es: u32, a: u64, b: u64) -> bool
-    requires { (3 ≤ n) × (n ≤ 16) × (Real n a) × (Real n b) }
-    ensures { Tells (Meets n es a b) result }
+pub fn cells_meet(f: Format, a: u64, b: u64) -> bool
+    requires { (Real f.n a) × (Real f.n b) }
+    ensures { Tells (Meets f.n f.es a b) result }
 {
-    let x = cells_of(n, a);
-    let y = cells_of(n, b);
-    if y.hi < x.lo {
-        return false;
-    }
-    if x.hi < y.lo {
-        return false;
-    }
-    if x.hi < x.lo {
-        return false;
-    }
-    y.lo <= y.hi
+    let x = cells_of(f, a);
+    let y = cells_of(f, b);
+    x.lo <= x.hi && y.lo <= y.hi && x.lo <= y.hi && y.lo <= x.hi
 }
 
-pub fn cells_below(n: u32, es: u32, a: u64, b: u64) -> bool
-    requires { (3 ≤ n) × (n ≤ 16) × (Real n a) × (Real n b) }
-    ensures { Tells (Below n es a b) result }
+pub fn cells_below(f: Format, a: u64, b: u64) -> bool
+    requires { (Real f.n a) × (Real f.n b) }
+    ensures { Tells (Below f.n f.es a b) result }
 {
-    let x = cells_of(n, a);
-    let y = cells_of(n, b);
-    if x.hi < x.lo {
-        return true;
-    }
-    if y.hi < y.lo {
-        return true;
-    }
-    x.hi < y.lo
+    let x = cells_of(f, a);
+    let y = cells_of(f, b);
+    x.hi < x.lo || y.hi < y.lo || x.hi < y.lo
 }

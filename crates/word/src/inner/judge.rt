@@ -1,59 +1,27 @@
 // The tests of range words: 3 for a word that is too large, 4 for one that holds infinity.
-ghost use Rattle.std.specs.Prelude.{◌≤◌};
 ghost use Rattle.call.specs.Verdict.{Says};
 ghost use Rattle.word.specs.Calls.{verdict_of_word};
-ghost use Rattle.word.specs.Refusal.{verdict_of_range, verdict_of_ranges};
+ghost use Rattle.word.specs.Refusal.{verdict_of_words};
 
-use super::operands::{Operands, take_words};
 use super::word::take_word;
-use call::judged::Judged;
-use call::number::{DONE, OUTSIDE_LIMITS};
-use call::place::LEFT;
-use posit::inner::format::is_format;
+use call::place::{LEFT, RIGHT};
+use call::refusal::Refusal;
+use posit::inner::format::Format;
 
 // One word, at a place.
-pub fn judge_word(n: u32, place: u32, a: u64) -> Judged
-    requires { (3 ≤ n) × (n ≤ 16) }
-    ensures { Says (verdict_of_word n place a) result }
+pub fn judge_word(f: Format, place: u32, a: u64) -> Result<(), Refusal>
+    ensures { Says (verdict_of_word f.n place a) result }
 {
-    let number = take_word(n, a).number;
-    if number != DONE {
-        return Judged {
-            number: number,
-            place: place,
-        };
-    }
-    Judged {
-        number: DONE,
-        place: LEFT,
+    match take_word(f, a) {
+        Ok(_) => Ok(()),
+        Err(reason) => Err(reason.at(place)),
     }
 }
 
-// A call on one range.
-pub fn judge_range(n: u32, es: u32, a: u64) -> Judged
-    ensures { Says (verdict_of_range n es a) result }
+// Two words, the left one first.
+pub fn judge_words(f: Format, a: u64, b: u64) -> Result<(), Refusal>
+    ensures { Says (verdict_of_words f.n a b) result }
 {
-    if !is_format(n, es) {
-        return Judged {
-            number: OUTSIDE_LIMITS,
-            place: LEFT,
-        };
-    }
-    judge_word(n, LEFT, a)
-}
-
-// A call on two ranges.
-pub fn judge_ranges(n: u32, es: u32, a: u64, b: u64) -> Judged
-    ensures { Says (verdict_of_ranges n es a b) result }
-{
-    match take_words(n, es, a, b) {
-        Operands::Refused { number, place } => Judged {
-            number: number,
-            place: place,
-        },
-        Operands::Cells { left, right } => Judged {
-            number: DONE,
-            place: LEFT,
-        },
-    }
+    judge_word(f, LEFT, a)?;
+    judge_word(f, RIGHT, b)
 }

@@ -1,135 +1,129 @@
 -- `column::columns::combine` meets its contract: the limits are judged, then the pairs unless all their words are plain,
 -- which passes every test of a pair, and the part from the row on is written.
-use mathlib.Core.Path.{◌≡◌, sym, ap, ◌∙◌}
-use mathlib.Core.Bool.{true}
-use mathlib.Core.List.{List, ◌++◌}
-use Prim.Native.Nat.{ℕ, ◌-◌}
-use native.Mathlib.Omega.{arith}
-use lib.ListN.{length, take, drop, length-take, length-drop}
-use Rattle.call.specs.Verdict.{first_hit}
+use Rattle.std.proofs.Common.{◌≡◌, List, ◌++◌, ℕ, ◌-◌, sym, ap, ◌∙◌, length, take, drop, arith}
+use lib.ListN.{length-take, length-drop}
+use Rattle.call.specs.Operation.{number_of}
+use Rattle.std.specs.Prelude.{Ok}
+use Rattle.call.specs.Written.{Writes, overwritten}
+use Rattle.call.proofs.Answered.{passes_on, accepts}
+use Rattle.call.proofs.Said.{refused_first, refused_next}
+use Rattle.call.proofs.Tests.{Passing, passing_of, passing_both, passing_done}
+use Rattle.call.proofs.Written.{later_refused, later_done, part_back}
+use Rattle.posit.proofs.Formats.{within}
 use Rattle.column.specs.Accepted.{ColumnFits}
 use Rattle.column.specs.Column.{column_limits, pairs_tests, verdict_of_columns, answers_of}
-use Rattle.column.specs.Plains.{takes_plain_way}
-use Rattle.call.specs.Written.{Writes}
-use Rattle.call.proofs.Tests.{Passing, passing_of, passing_both, passing_done}
-use Rattle.call.proofs.Said.{accepts, says_first, says_next}
 use Rattle.column.proofs.Limits.{column_refusing, column_fits}
 use Rattle.column.proofs.Pairs.{pairs_refusing, length_answers}
 use Rattle.column.proofs.Plains.{plain_passes, way_plain}
-use Rattle.call.proofs.Written.{writes_refused, writes_done, part_back}
 use Rattle.column.proofs.columns.combine.Goals as goal
-use Rattle.column.proofs.columns.combine.Goals.{Else-limits_number-ne-DONE, Else-pairs_number-ne-DONE, Then-takes_plain_way}
+use Rattle.column.proofs.columns.combine.Goals.{In_ok-f}
 
 -- ---- the tests that have passed
-limits_passed : (c : Else-limits_number-ne-DONE) → let a = c.args in
-    Passing (column_limits a.n a.es a.op (length a.left.now) (length a.right.now) a.row (length a.lent.now))
+limits_passed : (c : In_ok-f) → Passing (column_limits c.args.n c.args.es c.args.op (length c.args.left.now) (length c.args.right.now) c.args.row (length c.args.lent.now))
 limits_passed c =
     let a = c.args in
-    passing_of (column_refusing a.n a.es a.op (length a.left.now) (length a.right.now) a.row (length a.lent.now)) (accepts c.judge_columns-limits.ensures c.if-limits_number-ne-DONE.false)
+    passing_of (column_refusing a.n a.es a.op (length a.left.now) (length a.right.now) a.row (length a.lent.now)) (accepts c.in_ok-f.ensures.0)
 
-fit : (c : Else-limits_number-ne-DONE) → let a = c.args in
-    ColumnFits a.n a.es a.op (length a.left.now) (length a.right.now) a.row (length a.lent.now)
+fit : (c : In_ok-f) → ColumnFits c.args.n c.args.es c.args.op (length c.args.left.now) (length c.args.right.now) c.args.row (length c.args.lent.now)
 fit c = column_fits (limits_passed c)
 
--- by the plain way, or pair by pair
-plain_way : (c : Then-takes_plain_way) → let a = c.args in takes_plain_way a.n a.op a.left.now a.right.now ≡ true
-plain_way c = sym c.takes_plain_way.ensures ∙ c.if-takes_plain_way.true
+-- where all tests have passed the answers stand in the part from the row on
+module _ (n es op : ℕ) (left right : List ℕ) (row : ℕ) (lent : List ℕ) (limits : Passing (column_limits n es op (length left) (length right) row (length lent)))
+    (pairs : Passing (pairs_tests n es op 0 left right)) {part : List ℕ} (e : part ≡ answers_of n es op left right ++ drop (length left) (take (length lent - row) (drop row lent))) where
+  abbrev words : List ℕ
+  words = answers_of n es op left right
 
-plain_passed : (c : Then-takes_plain_way) → let a = c.args in Passing (pairs_tests a.n a.es a.op 0 a.left.now a.right.now)
-plain_passed c =
-    let a = c.args in
-    plain_passes (fit (goal.at.Then-takes_plain_way c).Else-limits_number-ne-DONE).format a.op 0 a.left.now a.right.now (way_plain a.n a.op a.left.now a.right.now (plain_way c))
+  fits : ColumnFits n es op (length left) (length right) row (length lent)
+  fits = column_fits limits
 
-pairs_accepted : (c : Else-pairs_number-ne-DONE) → let a = c.args in
-    (first_hit (pairs_tests a.n a.es a.op 0 a.left.now a.right.now)).number ≡ 0
-pairs_accepted c = accepts c.judge_pairs-pairs.ensures c.if-pairs_number-ne-DONE.false
+  as_many : length words ≡ length left
+  as_many = length_answers n es op left right fits.as_long
 
--- the answers stand in the part from the row on
-written : {later : List ℕ} (c : Else-limits_number-ne-DONE) → let a = c.args in let words = answers_of a.n a.es a.op a.left.now a.right.now in
-    Passing (pairs_tests a.n a.es a.op 0 a.left.now a.right.now)
-    → later ≡ words ++ drop (length a.left.now) (take (length a.lent.now - a.row) (drop a.row a.lent.now))
-    → Writes (verdict_of_columns a.n a.es a.op a.left.now a.right.now a.row (length a.lent.now)) a.row words a.lent.now
-    (take a.row a.lent.now ++ (later ++ drop (length a.lent.now - a.row) (drop a.row a.lent.now)))
-    (record { number = 0; place = 0; count = length a.left.now })
+  in_place : take row lent ++ (part ++ drop (length lent - row) (drop row lent)) ≡ overwritten row words lent
+  in_place =
+      let behind : List ℕ = drop (length lent - row) (drop row lent) in
+      ap (λ (l : List ℕ). take row lent ++ (l ++ behind)) e
+      ∙ ap (λ (k : ℕ). take row lent ++ (words ++ drop k (take (length lent - row) (drop row lent)) ++ behind)) (sym as_many)
+      ∙ part_back row words lent (omega (arith, as_many, fits.room))
+
+  written : Writes (verdict_of_columns n es op left right row (length lent)) row words lent (take row lent ++ (part ++ drop (length lent - row) (drop row lent))) (Ok (length left))
+  unfolding verdict_of_columns
+  written = let v = passing_done (passing_both limits pairs) in record { count = (v, sym as_many); later = later_done row words lent v in_place }
+
+pub returns-in_err-f : goal.returns-in_err-f
 unfolding verdict_of_columns
-written c passed e =
+returns-in_err-f c =
     let a = c.args in
-    let f = fit c in
-    let words = answers_of a.n a.es a.op a.left.now a.right.now in
-    let as_many : length words ≡ length a.left.now = length_answers a.n a.es a.op a.left.now a.right.now f.as_long in
-    let part : List ℕ = drop (length a.lent.now - a.row) (drop a.row a.lent.now) in
-    writes_done
-    (passing_done (passing_both (limits_passed c) passed))
-    (sym as_many)
-    (ap (λ (l : List ℕ). take a.row a.lent.now ++ (l ++ part)) e
-    ∙ ap (λ (k : ℕ). take a.row a.lent.now ++ (words ++ drop k (take (length a.lent.now - a.row) (drop a.row a.lent.now)) ++ part)) (sym as_many)
-    ∙ part_back a.row words a.lent.now (omega (arith, f.room)))
-
-pub returns-then-limits_number-ne-DONE : goal.returns-then-limits_number-ne-DONE
-unfolding verdict_of_columns
-returns-then-limits_number-ne-DONE c =
-    let a = c.args in
-    writes_refused (says_first (column_limits a.n a.es a.op (length a.left.now) (length a.right.now) a.row (length a.lent.now)) _ c.judge_columns-limits.ensures c.if-limits_number-ne-DONE.true) c.if-limits_number-ne-DONE.true
+    let v = refused_first (column_limits a.n a.es a.op (length a.left.now) (length a.right.now) a.row (length a.lent.now)) (pairs_tests a.n a.es a.op 0 a.left.now a.right.now) _ c.in_err-f.ensures in
+    record { count = passes_on _ _ _ c.from_residual.ensures v; later = later_refused _ a.row _ a.lent.now v }
 
 pub takes_plain_way-requires : goal.takes_plain_way-requires
-takes_plain_way-requires c = let f = fit c in (f.format.wide_enough, f.format.not_too_wide, f.as_long)
+takes_plain_way-requires c = (fit (goal.at.takes_plain_way-requires c).In_ok-f).as_long
 
 pub offset_bounds-lent-row : goal.offset_bounds-lent-row
 offset_bounds-lent-row c =
-    let f = fit (goal.at.offset_bounds-lent-row c).Else-limits_number-ne-DONE in
-    record { fits = omega (arith, f.room, c.well_formed.1.1.1.1.1.1.0.1) }
+    record { fits = omega (arith, (fit (goal.at.offset_bounds-lent-row c).In_ok-f).room, c.well_formed.1.1.1.1.1.1.0.1) }
 
 pub slice_bounds-write_plain-count : goal.slice_bounds-write_plain-count
-slice_bounds-write_plain-count c = let f = fit (goal.at.slice_bounds-write_plain-count c).Else-limits_number-ne-DONE in omega (arith, f.room)
+slice_bounds-write_plain-count c = omega (arith, (fit (goal.at.slice_bounds-write_plain-count c).In_ok-f).room)
 
 pub slice_bounds-write_plain-start : goal.slice_bounds-write_plain-start
-slice_bounds-write_plain-start c = let f = fit (goal.at.slice_bounds-write_plain-start c).Else-limits_number-ne-DONE in omega (arith, f.room)
+slice_bounds-write_plain-start c = omega (arith, (fit (goal.at.slice_bounds-write_plain-start c).In_ok-f).room)
 
-pub write_plain-requires : goal.write_plain-requires
-write_plain-requires c =
-    let f = fit (goal.at.write_plain-requires c).Else-limits_number-ne-DONE in
-    record { fits = (f.format, f.operation, f.as_long, simp (length-take, length-drop) (omega (arith, f.room))); plain = plain_way (goal.at.write_plain-requires c).Then-takes_plain_way }
+pub write_plain-requires-clause-fits : goal.write_plain-requires-clause-fits
+write_plain-requires-clause-fits c =
+    let f = fit (goal.at.write_plain-requires-clause-fits c).In_ok-f in
+    (f.as_long, simp (length-take, length-drop) (omega (arith, f.room)))
 
 pub overflow_cast-result : goal.overflow_cast-result
-overflow_cast-result c =
-    let f = fit (goal.at.overflow_cast-result c).Else-limits_number-ne-DONE in
-    record { fits = omega (arith, f.short) }
+overflow_cast-result c = record { fits = omega (arith, (fit (goal.at.overflow_cast-result c).In_ok-f).short) }
 
 pub returns-then-takes_plain_way : goal.returns-then-takes_plain_way
 returns-then-takes_plain_way c =
-    let t = (goal.at.returns-then-takes_plain_way c).Then-takes_plain_way in
-    written (goal.at.returns-then-takes_plain_way c).Else-limits_number-ne-DONE (plain_passed t) c.write_plain.ensures
+    let a = c.args in
+    let k = c.in_ok-f.ensures.1 in
+    let f = c.in_ok-f.f in
+    let op = number_of c.in_ok-f.op in
+    written a.n a.es a.op a.left.now a.right.now a.row a.lent.now (limits_passed (goal.at.returns-then-takes_plain_way c).In_ok-f)
+    (rw (k.n_is, k.es_is, k.operation_is) (plain_passes (within f) op 0 a.left.now a.right.now (way_plain f.n op a.left.now a.right.now (sym c.if-takes_plain_way.ensures))))
+    (rw (k.n_is, k.es_is, k.operation_is) c.write_plain.ensures)
 
-pub judge_pairs-pairs-requires : goal.judge_pairs-pairs-requires
-judge_pairs-pairs-requires c = let f = fit (goal.at.judge_pairs-pairs-requires c).Else-limits_number-ne-DONE in (f.format, f.as_long, f.short)
+pub judge_pairs-requires : goal.judge_pairs-requires
+judge_pairs-requires c = let f = fit (goal.at.judge_pairs-requires c).In_ok-f in (f.as_long, f.short)
 
-pub returns-then-pairs_number-ne-DONE : goal.returns-then-pairs_number-ne-DONE
+pub returns-in_err-judge_pairs : goal.returns-in_err-judge_pairs
 unfolding verdict_of_columns
-returns-then-pairs_number-ne-DONE c = writes_refused (says_next (limits_passed (goal.at.returns-then-pairs_number-ne-DONE c).Else-limits_number-ne-DONE) _ c.judge_pairs-pairs.ensures) c.if-pairs_number-ne-DONE.true
+returns-in_err-judge_pairs c =
+    let a = c.args in
+    let k = c.in_ok-f.ensures.1 in
+    let v = refused_next (limits_passed (goal.at.returns-in_err-judge_pairs c).In_ok-f) (pairs_tests a.n a.es a.op 0 a.left.now a.right.now)
+    (rw (k.n_is, k.es_is, k.operation_is) c.in_err-judge_pairs.ensures) in
+    record { count = passes_on _ _ _ c.from_residual-in_err-judge_pairs.ensures v; later = later_refused _ a.row _ a.lent.now v }
 
 pub offset_bounds-lent-row-2 : goal.offset_bounds-lent-row-2
 offset_bounds-lent-row-2 c =
-    let f = fit (goal.at.offset_bounds-lent-row-2 c).Else-limits_number-ne-DONE in
-    record { fits = omega (arith, f.room, c.well_formed.1.1.1.1.1.1.0.1) }
+    record { fits = omega (arith, (fit (goal.at.offset_bounds-lent-row-2 c).In_ok-f).room, c.well_formed.1.1.1.1.1.1.0.1) }
 
 pub slice_bounds-write_answers-count : goal.slice_bounds-write_answers-count
-slice_bounds-write_answers-count c = let f = fit (goal.at.slice_bounds-write_answers-count c).Else-limits_number-ne-DONE in omega (arith, f.room)
+slice_bounds-write_answers-count c = omega (arith, (fit (goal.at.slice_bounds-write_answers-count c).In_ok-f).room)
 
 pub slice_bounds-write_answers-start : goal.slice_bounds-write_answers-start
-slice_bounds-write_answers-start c = let f = fit (goal.at.slice_bounds-write_answers-start c).Else-limits_number-ne-DONE in omega (arith, f.room)
+slice_bounds-write_answers-start c = omega (arith, (fit (goal.at.slice_bounds-write_answers-start c).In_ok-f).room)
 
-pub write_answers-requires : goal.write_answers-requires
-write_answers-requires c =
-    let f = fit (goal.at.write_answers-requires c).Else-limits_number-ne-DONE in
-    record { fits = (f.format, f.operation, f.as_long, simp (length-take, length-drop) (omega (arith, f.room))); passes = pairs_accepted (goal.at.write_answers-requires c).Else-pairs_number-ne-DONE }
+pub write_answers-requires-clause-fits : goal.write_answers-requires-clause-fits
+write_answers-requires-clause-fits c =
+    let f = fit (goal.at.write_answers-requires-clause-fits c).In_ok-f in
+    (f.as_long, simp (length-take, length-drop) (omega (arith, f.room)))
 
 pub overflow_cast-result-2 : goal.overflow_cast-result-2
-overflow_cast-result-2 c =
-    let f = fit (goal.at.overflow_cast-result-2 c).Else-limits_number-ne-DONE in
-    record { fits = omega (arith, f.short) }
+overflow_cast-result-2 c = record { fits = omega (arith, (fit (goal.at.overflow_cast-result-2 c).In_ok-f).short) }
 
 pub returns : goal.returns
 returns c =
-    let e = (goal.at.returns c).Else-pairs_number-ne-DONE in
-    let a = e.args in
-    written (goal.at.returns c).Else-limits_number-ne-DONE (passing_of (pairs_refusing a.n a.es a.op 0 a.left.now a.right.now) (pairs_accepted e)) c.write_answers.ensures
+    let a = c.args in
+    let k = c.in_ok-f.ensures.1 in
+    let f = c.in_ok-f.f in
+    let op = number_of c.in_ok-f.op in
+    written a.n a.es a.op a.left.now a.right.now a.row a.lent.now (limits_passed (goal.at.returns c).In_ok-f)
+    (rw (k.n_is, k.es_is, k.operation_is) (passing_of (pairs_refusing f.n f.es op 0 a.left.now a.right.now) (accepts c.in_ok-judge_pairs.ensures.0)))
+    (rw (k.n_is, k.es_is, k.operation_is) c.write_answers.ensures)

@@ -1,26 +1,23 @@
 -- `posit::negate::negate` meets its contract: its tests are those of the verdict in the same order, and past them the pattern is negated.
-use Rattle.std.proofs.Common.{sym, refl, ◌∙◌, arith}
-use Rattle.call.proofs.Answered.{answers_refused, answers_done}
-use Rattle.posit.proofs.Verdicts.{format_of, one_outside, one_too_large, one_done}
+use Rattle.std.proofs.Common.{◌∙◌, arith}
+use Rattle.call.proofs.Answered.{passes_on}
+use Rattle.posit.proofs.Formats.{within}
+use Rattle.posit.proofs.Verdicts.{one_outside, one_judged, fits_of_verdict}
 use Rattle.posit.proofs.negate.negate.Goals as goal
 
-pub returns-then-not-is_format : goal.returns-then-not-is_format
-returns-then-not-is_format c = answers_refused (one_outside _ _ _ (sym c.is_format.ensures ∙ c.if-not-is_format.true)) refl
+pub returns-in_err-f : goal.returns-in_err-f
+returns-in_err-f c = passes_on _ _ _ c.from_residual.ensures (rw c.in_err-f.ensures.0 (one_outside _ _ _ c.in_err-f.ensures.1))
 
-pub power32-requires : goal.power32-requires
-power32-requires c = omega (arith, format_of {n = c.args.n} {es = c.args.es} (sym c.is_format.ensures ∙ c.if-not-is_format.false))
-
-pub returns-then-power32-p : goal.returns-then-power32-p
-returns-then-power32-p c =
-    answers_refused (one_too_large _ _ _ (sym c.is_format.ensures ∙ c.if-not-is_format.false) (omega arith)) refl
+pub returns-in_err-judge_posit : goal.returns-in_err-judge_posit
+returns-in_err-judge_posit c =
+    passes_on _ _ _ c.from_residual-in_err-judge_posit.ensures
+    (rw (c.in_ok-f.ensures.0, c.in_ok-f.ensures.1) (one_judged (within c.in_ok-f.f) c.args.p ∙ c.in_err-judge_posit.ensures))
 
 pub negated-requires : goal.negated-requires
 negated-requires c =
-    let f = format_of {n = c.args.n} {es = c.args.es} (sym c.is_format.ensures ∙ c.if-not-is_format.false) in
-    (omega arith, omega arith)
+    (omega (arith, c.in_ok-f.f.not_too_wide), fits_of_verdict c.in_ok-f.f.n 0 c.args.p c.in_ok-judge_posit.ensures.0)
 
 pub returns : goal.returns
 returns c =
-    answers_done
-    (one_done _ _ _ (sym c.is_format.ensures ∙ c.if-not-is_format.false) (omega arith))
-    c.negated.ensures
+    rw (c.in_ok-f.ensures.0, c.in_ok-f.ensures.1)
+    (one_judged (within c.in_ok-f.f) c.args.p ∙ c.in_ok-judge_posit.ensures.0, c.negated.ensures)

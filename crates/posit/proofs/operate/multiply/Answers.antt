@@ -1,14 +1,11 @@
--- `posit::operate::multiply` meets its contract: the call is judged by its two posits, and what is accepted has the product that `multiply_posits` gives.
-use Rattle.std.proofs.Common.{arith}
-use Rattle.posit.proofs.Calls.{call_refused, call_accepted, call_done}
+-- `posit::operate::multiply` meets its contract: in a format the call is judged by its two posits.
+use Rattle.call.specs.declared.operation.Operation.TheVariants.{Multiply}
+use Rattle.call.proofs.Answered.{passes_on}
+use Rattle.posit.proofs.Calls.{outside_limits, by_posits}
 use Rattle.posit.proofs.operate.multiply.Goals as goal
 
-pub returns-then-number-ne-DONE : goal.returns-then-number-ne-DONE
-returns-then-number-ne-DONE c = call_refused _ _ _ _ _ (omega arith) c.judge-verdict.ensures c.if-number-ne-DONE.true c.refused.ensures
-
-pub multiply_posits-requires : goal.multiply_posits-requires
-multiply_posits-requires c = call_accepted _ _ _ _ c.judge-verdict.ensures c.if-number-ne-DONE.false
+pub returns-in_err-new : goal.returns-in_err-new
+returns-in_err-new c = passes_on _ _ _ c.from_residual.ensures (outside_limits _ _ _ _ _ c.in_err-new.ensures)
 
 pub returns : goal.returns
-returns c =
-    call_done _ _ _ _ _ (omega arith) c.judge-verdict.ensures c.if-number-ne-DONE.false c.multiply_posits.ensures c.done.ensures
+returns c = by_posits c.in_ok-new.field-0 Multiply c.args.p c.args.q _ c.in_ok-new.ensures c.judged.ensures

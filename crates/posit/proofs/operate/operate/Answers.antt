@@ -1,27 +1,13 @@
--- `posit::operate::operate` meets its contract: a number up to 3 is a named call, and any other is refused after the format.
-use Rattle.std.proofs.Common.{◌<◌, sym, refl, ◌∙◌, arith}
-use Rattle.call.proofs.Answered.{answers_refused}
-use Rattle.posit.proofs.Verdicts.{operation_outside, operation_unknown}
+-- `posit::operate::operate` meets its contract: the format is tested first, then the number, and past both the call is that of its operation.
+use Rattle.call.proofs.Answered.{passes_on}
+use Rattle.posit.proofs.Calls.{outside_limits, no_operation, by_posits}
 use Rattle.posit.proofs.operate.operate.Goals as goal
-use Rattle.posit.proofs.operate.operate.Goals.{In-4-to-255}
 
-beyond : (c : In-4-to-255) → 3 < c.args.op
-beyond c = omega arith
+pub returns-in_err-f : goal.returns-in_err-f
+returns-in_err-f c = passes_on _ _ _ c.from_residual.ensures (outside_limits _ _ _ _ _ c.in_err-f.ensures)
 
-pub returns-then-is_format : goal.returns-then-is_format
-returns-then-is_format c = rw c.refused.ensures (answers_refused (operation_unknown _ _ _ _ _ (sym c.is_format.ensures ∙ c.if-is_format.true) (beyond c.before.before.before)) refl)
+pub returns-in_err-try_from : goal.returns-in_err-try_from
+returns-in_err-try_from c = passes_on _ _ _ c.from_residual-in_err-try_from.ensures (no_operation _ _ _ _ _ c.in_ok-f.f c.in_ok-f.ensures c.in_err-try_from.ensures)
 
-pub returns-in-0 : goal.returns-in-0
-returns-in-0 c = rw c.in-0.is c.add.ensures
-
-pub returns-in-1 : goal.returns-in-1
-returns-in-1 c = rw c.in-1.is c.subtract.ensures
-
-pub returns-in-2 : goal.returns-in-2
-returns-in-2 c = rw c.in-2.is c.multiply.ensures
-
-pub returns-in-3 : goal.returns-in-3
-returns-in-3 c = rw c.in-3.is c.divide.ensures
-
-pub returns-else-is_format : goal.returns-else-is_format
-returns-else-is_format c = rw c.refused-in-4-to-255.ensures (answers_refused (operation_outside _ _ _ _ _ (sym c.is_format.ensures ∙ c.if-is_format.false)) refl)
+pub returns : goal.returns
+returns c = rw (← c.in_ok-try_from.ensures) (by_posits c.in_ok-f.f c.in_ok-try_from.field-0 c.args.p c.args.q _ c.in_ok-f.ensures c.judged.ensures)

@@ -1,14 +1,11 @@
--- `range::operate::add` meets its contract: the ranges are judged first, and the sum of real ones is the computed answer.
-use native.Mathlib.Omega.{arith}
-use Rattle.call.specs.Operation.{plus}
-use Rattle.range.proofs.Operations.{call_cells, call_refused, sum_done}
+-- `range::operate::add` meets its contract: in a format the call is judged by its two words.
+use Rattle.call.specs.declared.operation.Operation.TheVariants.{Add}
+use Rattle.call.proofs.Answered.{passes_on}
+use Rattle.range.proofs.Operations.{outside_limits, by_operands}
 use Rattle.range.proofs.operate.add.Goals as goal
 
-pub add_cells-requires : goal.add_cells-requires
-add_cells-requires c = call_cells _ _ _ _ c.take_words.ensures c.in-Cells.is
+pub returns-in_err-new : goal.returns-in_err-new
+returns-in_err-new c = passes_on _ _ _ c.from_residual.ensures (outside_limits _ _ _ _ _ c.in_err-new.ensures)
 
-pub returns-in-Refused : goal.returns-in-Refused
-returns-in-Refused c = call_refused _ _ _ _ c.take_words.ensures plus (omega arith) c.in-Refused.is c.refused.ensures
-
-pub returns-in-Cells : goal.returns-in-Cells
-returns-in-Cells c = sum_done _ _ _ _ c.take_words.ensures c.in-Cells.is c.add_cells.ensures c.done.ensures
+pub returns : goal.returns
+returns c = by_operands c.in_ok-new.field-0 Add c.args.a c.args.b _ c.in_ok-new.ensures c.judged.ensures

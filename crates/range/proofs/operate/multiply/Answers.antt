@@ -1,16 +1,11 @@
--- `range::operate::multiply` meets its contract: the ranges are judged first, and the product of real ones is the computed answer.
-use native.Mathlib.Omega.{arith}
-use Rattle.call.specs.Operation.{times}
-use Rattle.range.proofs.Operations.{call_real_cells, call_refused, product_done}
+-- `range::operate::multiply` meets its contract: in a format the call is judged by its two words.
+use Rattle.call.specs.declared.operation.Operation.TheVariants.{Multiply}
+use Rattle.call.proofs.Answered.{passes_on}
+use Rattle.range.proofs.Operations.{outside_limits, by_operands}
 use Rattle.range.proofs.operate.multiply.Goals as goal
 
-pub multiply_cells-requires : goal.multiply_cells-requires
-multiply_cells-requires c =
-    call_real_cells _ _ _ _ c.take_words.ensures c.in-Cells.is
+pub returns-in_err-new : goal.returns-in_err-new
+returns-in_err-new c = passes_on _ _ _ c.from_residual.ensures (outside_limits _ _ _ _ _ c.in_err-new.ensures)
 
-pub returns-in-Refused : goal.returns-in-Refused
-returns-in-Refused c = call_refused _ _ _ _ c.take_words.ensures times (omega arith) c.in-Refused.is c.refused.ensures
-
-pub returns-in-Cells : goal.returns-in-Cells
-returns-in-Cells c =
-    product_done _ _ _ _ c.take_words.ensures c.in-Cells.is c.multiply_cells.ensures c.done.ensures
+pub returns : goal.returns
+returns c = by_operands c.in_ok-new.field-0 Multiply c.args.a c.args.b _ c.in_ok-new.ensures c.judged.ensures

@@ -1,16 +1,11 @@
--- `range::operate::subtract` meets its contract: the ranges are judged first, and the difference of real ones is the computed answer.
-use native.Mathlib.Omega.{arith}
-use Rattle.call.specs.Operation.{minus}
-use Rattle.range.proofs.Operations.{call_asks, call_cells, call_refused, difference_done}
+-- `range::operate::subtract` meets its contract: in a format the call is judged by its two words.
+use Rattle.call.specs.declared.operation.Operation.TheVariants.{Subtract}
+use Rattle.call.proofs.Answered.{passes_on}
+use Rattle.range.proofs.Operations.{outside_limits, by_operands}
 use Rattle.range.proofs.operate.subtract.Goals as goal
 
-pub subtract_word-requires : goal.subtract_word-requires
-subtract_word-requires c =
-    let x = call_cells _ _ _ _ c.take_words.ensures c.in-Cells.is in
-    (x.0, x.1, (call_asks _ _ _ _ c.take_words.ensures c.in-Cells.is).2)
+pub returns-in_err-new : goal.returns-in_err-new
+returns-in_err-new c = passes_on _ _ _ c.from_residual.ensures (outside_limits _ _ _ _ _ c.in_err-new.ensures)
 
-pub returns-in-Refused : goal.returns-in-Refused
-returns-in-Refused c = call_refused _ _ _ _ c.take_words.ensures minus (omega arith) c.in-Refused.is c.refused.ensures
-
-pub returns-in-Cells : goal.returns-in-Cells
-returns-in-Cells c = difference_done _ _ _ _ c.take_words.ensures c.in-Cells.is c.subtract_word.ensures c.done.ensures
+pub returns : goal.returns
+returns c = by_operands c.in_ok-new.field-0 Subtract c.args.a c.args.b _ c.in_ok-new.ensures c.judged.ensures

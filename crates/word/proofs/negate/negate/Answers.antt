@@ -1,17 +1,22 @@
--- `word::negate::negate` meets its contract: the word is judged first, and a real one is turned.
-use mathlib.Core.Path.{refl, sym, ◌∙◌}
-use Rattle.call.proofs.Answered.{answers_done, refused_as_said}
-use Rattle.word.proofs.Verdicts.{range_format, range_real, range_done}
+-- `word::negate::negate` meets its contract: the format and the word are judged first, and a real one is turned.
+use Rattle.std.proofs.Common.{◌∙◌}
+use Rattle.call.proofs.Answered.{passes_on, accepts}
+use Rattle.posit.proofs.Formats.{within}
+use Rattle.word.proofs.Verdicts.{range_outside, range_judged, word_real}
 use Rattle.word.proofs.negate.negate.Goals as goal
 
-pub returns-then-number-ne-DONE : goal.returns-then-number-ne-DONE
-returns-then-number-ne-DONE c = refused_as_said c.judge_range-verdict.ensures c.if-number-ne-DONE.true refl
+pub returns-in_err-f : goal.returns-in_err-f
+returns-in_err-f c = passes_on _ _ _ c.from_residual.ensures (rw c.in_err-f.ensures.0 (range_outside _ _ _ c.in_err-f.ensures.1))
+
+pub returns-in_err-judge_word : goal.returns-in_err-judge_word
+returns-in_err-judge_word c =
+    passes_on _ _ _ c.from_residual-in_err-judge_word.ensures
+    (rw (c.in_ok-f.ensures.0, c.in_ok-f.ensures.1) (range_judged (within c.in_ok-f.f) c.args.a ∙ c.in_err-judge_word.ensures))
 
 pub turned-requires : goal.turned-requires
-turned-requires c =
-    let f = range_format c.args.n c.args.es c.args.a (sym c.judge_range-verdict.ensures.number ∙ c.if-number-ne-DONE.false) in
-    (f.wide_enough, f.not_too_wide, range_real _ _ _ (sym c.judge_range-verdict.ensures.number ∙ c.if-number-ne-DONE.false))
+turned-requires c = word_real c.in_ok-f.f.n 0 c.args.a (accepts c.in_ok-judge_word.ensures.0)
 
 pub returns : goal.returns
 returns c =
-    answers_done (range_done _ _ _ (sym c.judge_range-verdict.ensures.number ∙ c.if-number-ne-DONE.false)) c.turned.ensures
+    rw (c.in_ok-f.ensures.0, c.in_ok-f.ensures.1)
+    (range_judged (within c.in_ok-f.f) c.args.a ∙ c.in_ok-judge_word.ensures.0, c.turned.ensures)

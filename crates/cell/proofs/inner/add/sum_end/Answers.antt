@@ -4,16 +4,15 @@ use Rattle.cell.proofs.SumCells.{end_left, end_right, end_finite, end_found, mar
 use Rattle.cell.proofs.inner.add.sum_end.Goals as goal
 
 pub returns-then-x-top : goal.returns-then-x-top
-returns-then-x-top c = end_left _ c.args.es c.requires.0.wide_enough c.args.y c.top_cell-top.ensures c.if-x-top.true
+returns-then-x-top c = end_left _ c.args.f.es c.args.f.wide_enough c.args.y c.top_cell-top.ensures c.if-x-top.true
 
 pub returns-then-y-top : goal.returns-then-y-top
-returns-then-y-top c = end_right _ c.args.es c.requires.0.wide_enough c.args.x c.top_cell-top.ensures c.if-y-top.true
+returns-then-y-top c = end_right _ c.args.f.es c.args.f.wide_enough c.args.x c.top_cell-top.ensures c.if-y-top.true
 
 pub sum_cell-cell-requires : goal.sum_cell-cell-requires
 sum_cell-cell-requires c = (
-  c.requires.0,
-  end_finite _ c.args.es c.requires.0.wide_enough c.top_cell-top.ensures c.if-x-top.false c.requires.1 c.end_posit.ensures,
-  end_finite _ c.args.es c.requires.0.wide_enough c.top_cell-top.ensures c.if-y-top.false c.requires.2 c.end_posit-2.ensures,
+  end_finite _ c.args.f.es c.args.f.wide_enough c.top_cell-top.ensures c.if-x-top.false c.requires.0 c.end_posit.ensures,
+  end_finite _ c.args.f.es c.args.f.wide_enough c.top_cell-top.ensures c.if-y-top.false c.requires.1 c.end_posit-2.ensures,
 )
 
 pub overflow_mul-gap : goal.overflow_mul-gap
@@ -30,4 +29,4 @@ overflow_sub-result c = omega (arith, moved_small c.sum_cell-cell.result c.args.
 
 pub returns : goal.returns
 returns c =
-    end_found _ _ c.requires.0.wide_enough c.args.x c.args.y (omega arith) (omega arith) c.end_posit.ensures c.end_posit-2.ensures c.sum_cell-cell.ensures
+    end_found _ _ c.args.f.wide_enough c.args.x c.args.y (omega arith) (omega arith) c.end_posit.ensures c.end_posit-2.ensures c.sum_cell-cell.ensures

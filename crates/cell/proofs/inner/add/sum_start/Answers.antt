@@ -4,16 +4,15 @@ use Rattle.cell.proofs.SumCells.{start_left, start_right, start_finite, start_fo
 use Rattle.cell.proofs.inner.add.sum_start.Goals as goal
 
 pub returns-then-x-eq0 : goal.returns-then-x-eq0
-returns-then-x-eq0 c = start_left _ c.args.es c.requires.0.wide_enough c.args.y c.if-x-eq0.true
+returns-then-x-eq0 c = start_left _ c.args.f.es c.args.f.wide_enough c.args.y c.if-x-eq0.true
 
 pub returns-then-y-eq0 : goal.returns-then-y-eq0
-returns-then-y-eq0 c = start_right _ c.args.es c.requires.0.wide_enough c.args.x c.if-y-eq0.true
+returns-then-y-eq0 c = start_right _ c.args.f.es c.args.f.wide_enough c.args.x c.if-y-eq0.true
 
 pub sum_cell-cell-requires : goal.sum_cell-cell-requires
 sum_cell-cell-requires c = (
-  c.requires.0,
-  start_finite _ c.args.es c.requires.0.wide_enough c.if-x-eq0.false c.requires.1 c.start_posit.ensures,
-  start_finite _ c.args.es c.requires.0.wide_enough c.if-y-eq0.false c.requires.2 c.start_posit-2.ensures,
+  start_finite _ c.args.f.es c.args.f.wide_enough c.if-x-eq0.false c.requires.0 c.start_posit.ensures,
+  start_finite _ c.args.f.es c.args.f.wide_enough c.if-y-eq0.false c.requires.1 c.start_posit-2.ensures,
 )
 
 pub overflow_mul-gap : goal.overflow_mul-gap
@@ -26,9 +25,9 @@ pub overflow_mul-result : goal.overflow_mul-result
 overflow_mul-result c = omega (arith, moved_small c.sum_cell-cell.result c.args.x c.args.y)
 
 pub overflow_add-result : goal.overflow_add-result
-overflow_add-result c = omega (arith, moved_small c.sum_cell-cell.result c.args.x c.args.y, cell_small _ _ c.requires.0.wide_enough _ c.requires.0.not_too_wide c.sum_cell-cell.ensures)
+overflow_add-result c = omega (arith, moved_small c.sum_cell-cell.result c.args.x c.args.y, cell_small _ _ c.args.f.wide_enough _ c.args.f.not_too_wide c.sum_cell-cell.ensures)
 
 pub returns : goal.returns
 returns c =
-    start_found _ _ c.requires.0.wide_enough c.args.x c.args.y c.start_posit.ensures c.start_posit-2.ensures c.sum_cell-cell.ensures
+    start_found _ _ c.args.f.wide_enough c.args.x c.args.y c.start_posit.ensures c.start_posit-2.ensures c.sum_cell-cell.ensures
     c.if-x-eq0.false c.if-y-eq0.false

@@ -6,10 +6,10 @@ use Rattle.cell.proofs.CellFrom.{mark_fits, gap_fits, gives_cell}
 use Rattle.cell.proofs.inner.cell.cell_from.Goals as goal
 
 pub overflow_sub-result : goal.overflow_sub-result
-overflow_sub-result c = omega (arith, pow_pos c.args.n)
+overflow_sub-result c = omega (arith, pow_pos c.args.f.n)
 
 pub overflow_add-result : goal.overflow_add-result
-overflow_add-result c = omega (arith, half_small c.requires.0)
+overflow_add-result c = omega (arith, half_small c.args.f.not_too_wide)
 
 pub overflow_sub-result-3 : goal.overflow_sub-result-3
 overflow_sub-result-3 c = mark_fits c.args.exact
@@ -18,7 +18,7 @@ pub overflow_mul-result : goal.overflow_mul-result
 overflow_mul-result c = omega (arith, gap_fits c.args.pattern c.args.exact)
 
 pub overflow_add-result-2 : goal.overflow_add-result-2
-overflow_add-result-2 c = omega (arith, half_small c.requires.0, gap_fits c.args.pattern c.args.exact)
+overflow_add-result-2 c = omega (arith, half_small c.args.f.not_too_wide, gap_fits c.args.pattern c.args.exact)
 
 pub returns : goal.returns
-returns c = gives_cell c.args.n c.args.pattern c.args.exact c.power32.ensures
+returns c = gives_cell c.args.f.n c.args.pattern c.args.exact c.power32.ensures

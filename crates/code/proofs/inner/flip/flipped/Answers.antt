@@ -3,4 +3,4 @@ use Rattle.code.proofs.Flip.{flipped_by}
 use Rattle.code.proofs.inner.flip.flipped.Goals as goal
 
 pub returns : goal.returns
-returns c = flipped_by c.args.mark c.requires c.ranges.x.fits c.wrapping_sub_u64.type_inv c.wrapping_sub_u64.ensures.value
+returns c = flipped_by c.args.mark c.requires c.ranges.x.fits c.wrapping_neg.type_inv c.wrapping_neg.ensures

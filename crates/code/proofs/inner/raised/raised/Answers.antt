@@ -15,10 +15,8 @@ float_from_bits-x c = plain_number c.args.x c.requires.0 c.requires.1
 
 pub float_to_bits-result : goal.float_to_bits-result
 float_to_bits-result c =
-    let at = c.before in
-    rw c.greater.ensures (raised_number at.args.x at.args.y at.requires.0 at.requires.1 at.requires.2 at.requires.3)
+    rw c.greater.ensures (raised_number c.args.x c.args.y c.requires.0 c.requires.1 c.requires.2 c.requires.3)
 
 pub returns : goal.returns
 returns c =
-    let at = c.before in
-    rw c.greater.ensures (raised_bits at.args.x at.args.y at.requires.0 at.requires.1 at.requires.2 at.requires.3)
+    rw c.greater.ensures (raised_bits c.args.x c.args.y c.requires.0 c.requires.1 c.requires.2 c.requires.3)

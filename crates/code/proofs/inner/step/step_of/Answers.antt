@@ -1,41 +1,42 @@
 -- `code::inner::step::step_of` meets its contract: the word's regime and tail give the pattern whose cut is the floor of what the code tells (`Stepping`),
 -- and nothing wraps on the way.
+use Rattle.posit.proofs.Formats.{within}
 use Rattle.std.proofs.Common.{◌/◌, ◌%◌, ◌^◌, ◌<◌, ltb, arith, pow_pos}
 use Rattle.code.proofs.Cutting.{few_exponents, lowest_below, word_small, turned_small, kept_small}
 use Rattle.code.proofs.Stepping.{step_is, step_small}
 use Rattle.code.proofs.inner.step.step_of.Goals as goal
-use Rattle.code.proofs.inner.step.step_of.Goals.{After-power-unit, Start}
+use Rattle.code.proofs.inner.step.step_of.Goals.{After-power-unit}
 
 pub overflow_mul-lowest : goal.overflow_mul-lowest
-overflow_mul-lowest c = rw c.power.ensures (record { fits = omega (arith, few_exponents c.requires.0.exponent_fits) })
+overflow_mul-lowest c = rw c.power.ensures (record { fits = omega (arith, few_exponents c.args.f.exponent_fits) })
 
 pub overflow_sub-lowest : goal.overflow_sub-lowest
-overflow_sub-lowest c = rw c.power.ensures (omega (arith, few_exponents c.requires.0.exponent_fits))
+overflow_sub-lowest c = rw c.power.ensures (omega (arith, few_exponents c.args.f.exponent_fits))
 
 pub overflow_sub-word : goal.overflow_sub-word
-overflow_sub-word c = rw c.power.ensures (lowest_below c.requires.0.exponent_fits c.requires.1)
+overflow_sub-word c = rw c.power.ensures (lowest_below c.args.f.exponent_fits c.requires)
 
 pub overflow_mul-word : goal.overflow_mul-word
-overflow_mul-word c = rw (c.power-2.ensures, c.power.ensures) (record { fits = word_small c.requires.0.exponent_fits c.requires.1 })
+overflow_mul-word c = rw (c.power-2.ensures, c.power.ensures) (record { fits = word_small c.args.f.exponent_fits c.requires })
 
 pub flipped-z-requires : goal.flipped-z-requires
-flipped-z-requires c = rw (c.power-2.ensures, c.power.ensures) (omega (arith, word_small c.requires.0.exponent_fits c.requires.1))
+flipped-z-requires c = rw (c.power-2.ensures, c.power.ensures) (omega (arith, word_small c.args.f.exponent_fits c.requires))
 
 pub overflow_sub-z : goal.overflow_sub-z
 overflow_sub-z c =
     rw (c.flipped-z.ensures, c.power-2.ensures, c.power.ensures)
-    (omega (arith, turned_small c.requires.0.exponent_fits c.requires.1))
+    (omega (arith, turned_small c.args.f.exponent_fits c.requires))
 
 pub power-requires-3 : goal.power-requires-3
 power-requires-3 c =
     rw (c.flipped-z.ensures, c.power-2.ensures, c.power.ensures)
-    (omega (arith, turned_small c.requires.0.exponent_fits c.requires.1))
+    (omega (arith, turned_small c.args.f.exponent_fits c.requires))
 
 pub nonzero_div-closed : goal.nonzero_div-closed
 nonzero_div-closed c = rw c.power-3.ensures (pow_pos _)
 
 pub flipped-pattern-requires : goal.flipped-pattern-requires
-flipped-pattern-requires c = rw (c.power-2.ensures, c.power.ensures) (omega (arith, word_small c.requires.0.exponent_fits c.requires.1))
+flipped-pattern-requires c = rw (c.power-2.ensures, c.power.ensures) (omega (arith, word_small c.args.f.exponent_fits c.requires))
 
 pub nonzero_rem-gap : goal.nonzero_rem-gap
 nonzero_rem-gap c = rw c.power-unit.ensures (pow_pos _)
@@ -43,11 +44,8 @@ nonzero_rem-gap c = rw c.power-unit.ensures (pow_pos _)
 pub nonzero_div-result : goal.nonzero_div-result
 nonzero_div-result c = nonzero_rem-gap c
 
-abbrev start : After-power-unit → Start
-start c = c.before.before.before.before.before.before
-
 kept : (c : After-power-unit) → c.flipped-pattern.result / c.power-unit.result < 2 ^ 15
-kept c = rw c.power-unit.ensures (kept_small (start c).requires.0 (omega arith))
+kept c = rw c.power-unit.ensures (kept_small (within c.args.f) (omega arith))
 
 pub overflow_cast-result : goal.overflow_cast-result
 overflow_cast-result c = record { fits = omega (arith, kept c) }
@@ -68,4 +66,4 @@ returns c =
       c.power-2.ensures,
       c.power.ensures,
     )
-    (step_is (start c).requires.0 (start c).requires.1)
+    (step_is (within c.args.f) c.requires)

@@ -1,14 +1,11 @@
--- `column::inner::pairs::judge_pairs` meets its contract: while no pair is refused, the verdict of all pairs is that of the pairs left.
-use mathlib.Core.Path.{◌≡◌}
-use Prim.Native.Nat.{◌-◌, ◌≤◌}
-use lib.ListN.{length, drop}
+-- `column::inner::pairs::judge_pairs` meets its contract: after i turns the first i pairs pass, so the verdict is that of the pairs left.
+use Rattle.std.proofs.Common.{◌≡◌, length, drop}
+use Rattle.call.specs.Operation.{number_of}
 use Rattle.call.specs.Verdict.{first_hit}
 use Rattle.column.specs.Column.{pairs_tests}
 use Rattle.column.proofs.inner.pairs.judge_pairs.Given as goal
 
 abbrev pub invariant-loop-i : goal.invariant-loop-i
 invariant-loop-i l =
-    (l.i ≤ length l.left) × (first_hit (pairs_tests l.n l.es l.op 0 l.left l.right) ≡ first_hit (pairs_tests l.n l.es l.op l.i (drop l.i l.left) (drop l.i l.right)))
-
-abbrev pub decreases-loop-i : goal.decreases-loop-i
-decreases-loop-i l = length l.left - l.i
+    first_hit (pairs_tests l.f.n l.f.es (number_of l.op) 0 l.left l.right)
+    ≡ first_hit (pairs_tests l.f.n l.f.es (number_of l.op) (length l.yielded) (drop (length l.yielded) l.left) (drop (length l.yielded) l.right))

@@ -1,25 +1,25 @@
 -- `column::inner::plains::all_plain` meets its contract: all pairs are such where the faults joined so far are below 2^63 and the pairs left are such.
-use mathlib.Core.Path.{refl, sym, ◌∙◌}
-use native.Mathlib.Omega.{arith}
+use Rattle.std.proofs.Common.{sym, ap, ◌∙◌, length, arith}
+use Rattle.std.proofs.lemmas.List.{length_push}
+use Rattle.std.proofs.lemmas.Slice.Zip.{zip_turn, zip_end}
+use Rattle.tiles.specs.Plain.{is_plain}
+use Rattle.tiles.specs.Spread.{is_spread}
 use Rattle.column.proofs.Plains.{faults_next, faults_end}
 use Rattle.column.proofs.inner.plains.all_plain.Goals as goal
-use Rattle.column.proofs.inner.plains.all_plain.Goals.{In-loop-i}
 
-pub loop-i-init : goal.loop-i-init
-loop-i-init c = (omega arith, refl)
-
-pub loop-i-preserved : goal.loop-i-preserved
-loop-i-preserved c =
+pub loop-a-preserved : goal.loop-a-preserved
+loop-a-preserved c =
     let a = c.args in
-    let l = c.loop-i in (
-      omega arith,
-      l.invariant.1
-          ∙ faults_next a.n l.i l.faults c.spread_fault.result c.plain_fault.result a.left.now a.right.now c.loop-i-test.true (omega arith)
-          c.spread_fault.ensures c.plain_fault.ensures,
-    )
+    let l = c.loop-a in
+    let turn = zip_turn a.left.now a.right.now l.yielded c.into_iter-a-iterator.result l.a-iterator c.next.new.self c.next.result (cc) (cc) l.yielded_by (c.in-Some.a, c.in-Some.b) c.in-Some.is c.next.ensures.steps in
+    rw (length_push l.yielded (c.in-Some.a, c.in-Some.b))
+    (l.invariant
+    ∙ faults_next a.f.n (length l.yielded) l.faults c.spread_fault.result c.plain_fault.result a.left.now a.right.now turn.0 turn.1
+    (c.spread_fault.ensures ∙ ap (is_spread a.f.n) (turn.2 0)) (c.plain_fault.ensures ∙ ap (is_plain a.f.n) (turn.3 0)))
 
 pub returns : goal.returns
 returns c =
     let a = c.args in
-    let l = c.loop-i in
-    sym (l.invariant.1 ∙ faults_end a.n l.i l.faults a.left.now _ c.loop-i-test.false)
+    let l = c.loop-a in
+    let end = zip_end a.left.now a.right.now l.yielded c.into_iter-a-iterator.result l.a-iterator c.next.new.self c.next.result (cc) (cc) l.yielded_by c.in-None.is c.next.ensures.steps in
+    sym (l.invariant ∙ faults_end a.f.n (length l.yielded) l.faults a.left.now _ (omega arith))

@@ -1,47 +1,52 @@
 -- `column::inner::plains::write_plain` meets its contract: after i turns the first i answers stand at the front, and the rest is as it was.
-use mathlib.Core.Path.{◌≡◌, refl, sym, ◌∙◌}
-use mathlib.Core.Bool.{true}
-use native.Mathlib.Omega.{arith}
-use lib.ListN.{get_or}
+use Rattle.std.proofs.Common.{◌≡◌, ◌∙◌, true, length, arith}
+use Rattle.std.proofs.lemmas.List.{length_push}
 use Rattle.tiles.specs.Plain.{is_plain}
 use Rattle.tiles.specs.Spread.{is_spread}
 use Rattle.column.specs.Column.{answers_of}
-use Rattle.call.proofs.Copies.{copy_none, copy_one, copy_length, copy_whole}
-use Rattle.column.proofs.Pairs.{length_answers, answer_at}
+use Rattle.call.specs.Operation.{number_of}
+use Rattle.call.proofs.Copies.{copy_one, copy_whole}
+use Rattle.column.proofs.Pairs.{length_answers}
 use Rattle.column.proofs.Plains.{plain_at, way_plain, way_other}
+use Rattle.column.proofs.Turns.{Turn, numbered_turn, numbered_end, answer_here}
 use Rattle.column.proofs.inner.plains.write_plain.Goals as goal
-use Rattle.column.proofs.inner.plains.write_plain.Goals.{In-loop-i, Start}
+use Rattle.column.proofs.inner.plains.write_plain.Goals.{In-Some}
 
-pub loop-i-init : goal.loop-i-init
-loop-i-init c = (omega arith, refl, copy_none _ _)
+turn : (c : In-Some) → Turn c.args.left.now c.args.right.now (length c.loop-i.yielded) c.in-Some.i c.in-Some.a.now c.in-Some.b.now
+turn c =
+    let l = c.loop-i in
+    numbered_turn c.args.left.now c.args.right.now c.into_iter-i-iterator.result (cc) (cc) (cc) l.yielded l.i-iterator c.next.new.self l.yielded_by
+    c.next.result (c.in-Some.i, (c.in-Some.a, c.in-Some.b)) c.in-Some.is c.next.ensures.steps
 
--- the words of the next pair are such
-next_plain : (c : In-loop-i) → let a = c.args in let i = c.loop-i.i in
-    (is_spread a.n (get_or a.left.now i 0) ≡ true) × (is_plain a.n (get_or a.right.now i 0) ≡ true)
-next_plain c =
+-- the words of this pair are such
+plain : (c : In-Some) → (is_spread c.args.f.n c.in-Some.a.now ≡ true) × (is_plain c.args.f.n c.in-Some.b.now ≡ true)
+plain c =
     let a = c.args in
-    plain_at a.n a.left.now a.right.now (way_plain a.n a.op a.left.now a.right.now c.requires.plain) c.loop-i.i c.loop-i-test.true (omega arith)
+    let t = turn c in
+    rw (t.left_word, t.right_word)
+    (plain_at a.f.n a.left.now a.right.now (way_plain a.f.n (number_of a.op) a.left.now a.right.now c.requires.plain) (length c.loop-i.yielded) t.left_here t.right_here)
 
 pub plain_answer-requires : goal.plain_answer-requires
 plain_answer-requires c =
-    let t = (goal.at.plain_answer-requires c).In-loop-i in
     let a = c.args in
-    (c.requires.fits.0, c.requires.fits.1, way_other a.n a.op a.left.now a.right.now c.requires.plain, (next_plain t).0, (next_plain t).1)
+    let p = plain (goal.at.plain_answer-requires c).In-Some in
+    (way_other a.f.n (number_of a.op) a.left.now a.right.now c.requires.plain, p.0, p.1)
 
 pub loop-i-preserved : goal.loop-i-preserved
 loop-i-preserved c =
+    let a = c.args in
     let l = c.loop-i in
-    let as_many = length_answers c.args.n c.args.es c.args.op c.args.left.now c.args.right.now c.requires.fits.2 in
-    let next =
-    copy_one c.args.out.now (answers_of c.args.n c.args.es c.args.op c.args.left.now c.args.right.now) l.invariant.2 (omega arith) (omega arith)
-    (c.plain_answer.ensures ∙ sym (answer_at c.args.n c.args.es c.args.op c.args.left.now c.args.right.now l.i c.loop-i-test.true (omega arith)))
-    in
-    (omega arith, copy_length _ _ next (omega arith) (omega arith), next)
-
-pub shape_of-out : goal.shape_of-out
-shape_of-out c = c.loop-i.invariant.1
+    let t = turn (goal.at.loop-i-preserved c).In-Some in
+    let as_many = length_answers a.f.n a.f.es (number_of a.op) a.left.now a.right.now c.requires.fits.0 in
+    rw (length_push l.yielded (c.in-Some.i, (c.in-Some.a, c.in-Some.b)), t.place)
+    (copy_one a.out.now (answers_of a.f.n a.f.es (number_of a.op) a.left.now a.right.now) l.invariant (omega arith) (omega arith)
+    (c.plain_answer.ensures ∙ answer_here a.f.n a.f.es (number_of a.op) t))
 
 pub returns : goal.returns
 returns c =
-    let as_many = length_answers c.args.n c.args.es c.args.op c.args.left.now c.args.right.now c.requires.fits.2 in
-    copy_whole _ _ c.loop-i.invariant.2 (omega arith) as_many
+    let a = c.args in
+    let l = c.loop-i in
+    let as_many = length_answers a.f.n a.f.es (number_of a.op) a.left.now a.right.now c.requires.fits.0 in
+    let end = numbered_end a.left.now a.right.now c.into_iter-i-iterator.result (cc) (cc) (cc) l.yielded l.i-iterator c.next.new.self l.yielded_by
+    c.next.result c.in-None.is c.next.ensures.steps c.requires.fits.0 in
+    copy_whole _ _ l.invariant end as_many

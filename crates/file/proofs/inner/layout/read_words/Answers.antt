@@ -1,34 +1,47 @@
--- `file::inner::layout::read_words` meets its contract: after i turns the first i words are the first i of the bytes.
-use mathlib.Core.Path.{◌≡◌, sym, ap, ◌∙◌}
-use Prim.Native.Nat.{ℕ}
-use native.Mathlib.Omega.{arith}
-use lib.ListN.{take, length-replicate}
-use lib.Seq.{take_all}
-use Rattle.file.specs.File.{words_of}
-use Rattle.call.proofs.Copies.{copy_none, copy_one, copy_length, copy_front}
-use Rattle.file.proofs.Parts.{length_words, word_at}
+-- `file::inner::layout::read_words` meets its contract: after i turns the words are the first i of the bytes.
+use Rattle.std.proofs.Common.{◌≡◌, ℕ, List, [], ◌∷◌, ◌++◌, ◌*◌, ◌/◌, ◌<◌, sym, ap, ◌∙◌, length, get_or, take, drop, arith, w64, length-drop}
+use Rattle.std.specs.Int.{from_le_bytes}
+use Rattle.std.proofs.Math.Seq.{length-take-le}
+use Rattle.file.specs.File.{number_of, words_of}
+use Rattle.sheet.proofs.Chunks.{chunk_at}
+use Rattle.file.proofs.Numbers.{eight_read}
+use Rattle.file.proofs.Parts.{length_words, words_more}
 use Rattle.file.proofs.inner.layout.read_words.Goals as goal
+use Rattle.file.proofs.inner.layout.read_words.Goals.{In-loop-eight}
 
-pub loop-i-init : goal.loop-i-init
-loop-i-init c = (omega arith, length-replicate {A = ℕ} 32 0, copy_none _ _)
+here : (c : In-loop-eight) → c.loop-eight.eight-index < length c.args.bytes.now / 8
+here c = omega (arith, c.as_chunks.ensures.front_len, c.loop-eight-test.true)
 
-pub loop-i-preserved : goal.loop-i-preserved
-loop-i-preserved c =
-    let a = c.args in
-    let l = c.loop-i in
-    let more = c.loop-i-test.true in
-    let many = length_words a.count a.bytes.now in
-    (omega arith, l.invariant.1, copy_one _ _ l.invariant.2 (omega arith) (omega arith) (c.read_word.ensures ∙ sym (word_at a.count a.bytes.now l.i more)))
+-- the eight bytes of this turn
+eight : (c : In-loop-eight) → get_or c.as_chunks.result.0.now c.loop-eight.eight-index [] ≡ take 8 (drop (8 * c.loop-eight.eight-index) c.args.bytes.now)
+eight c =
+    let k = c.loop-eight.eight-index in
+    ap (λ (eights : List (List ℕ)). get_or eights k []) c.as_chunks.ensures.front ∙ chunk_at 8 k (length c.args.bytes.now / 8) c.args.bytes.now (here c)
+
+pub loop-eight-init : goal.loop-eight-init
+unfolding words_of
+loop-eight-init c = c.new-words.ensures
+
+pub push-requires : goal.push-requires
+push-requires c =
+    let k = c.loop-eight.eight-index in
+    let few : k < 32 = omega (arith, here (goal.at.push-requires c).In-loop-eight, c.requires) in
+    (omega arith, omega (arith, few, ap length c.loop-eight.invariant, length_words k c.args.bytes.now))
+
+pub loop-eight-preserved : goal.loop-eight-preserved
+loop-eight-preserved c =
+    let t = (goal.at.loop-eight-preserved c).In-loop-eight in
+    let bytes = c.args.bytes.now in
+    let k = c.loop-eight.eight-index in
+    let long : length (take 8 (drop (8 * k) bytes)) ≡ 8 = length-take-le 8 (drop (8 * k) bytes) (omega (arith, length-drop (8 * k) bytes, here t)) in
+    let word : c.from_le_bytes.result ≡ number_of (take 8 (drop (8 * k) bytes)) =
+    c.from_le_bytes.ensures ∙ ap (from_le_bytes w64) (eight t) ∙ eight_read (take 8 (drop (8 * k) bytes)) long in
+    c.push.ensures.items
+    ∙ ap (λ (l : List ℕ). l ++ c.from_le_bytes.result ∷ []) c.loop-eight.invariant
+    ∙ ap (λ (w : ℕ). words_of k bytes ++ w ∷ []) word
+    ∙ sym (words_more k bytes)
 
 pub returns : goal.returns
 returns c =
-    let a = c.args in
-    let l = c.loop-i in
-    let end : a.count ≡ l.i = omega arith in
-    let many = length_words a.count a.bytes.now in (
-      copy_length _ _ l.invariant.2 (omega arith) (omega arith) ∙ l.invariant.1,
-      ap (λ (k : ℕ). take k l.words) end
-          ∙ copy_front _ _ l.invariant.2 (omega arith)
-          ∙ ap (λ (k : ℕ). take k (words_of a.count a.bytes.now)) (sym end)
-          ∙ take_all a.count (words_of a.count a.bytes.now) (omega arith),
-    )
+    let end : c.loop-eight.eight-index ≡ length c.args.bytes.now / 8 = omega (arith, c.as_chunks.ensures.front_len, c.loop-eight-test.false) in
+    c.loop-eight.invariant ∙ ap (λ (k : ℕ). words_of k c.args.bytes.now) end

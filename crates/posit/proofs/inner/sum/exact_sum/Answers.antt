@@ -1,46 +1,39 @@
 -- `posit::inner::sum::exact_sum` meets its contract: both numbers are whole multiples of 2^-56, of at most 2^112 units, and are added or subtracted by their signs.
-use Rattle.std.proofs.Common.{◌≡◌, ◌*◌, ◌^◌, arith}
-use Rattle.posit.specs.Magnitudes.{number}
-use Rattle.posit.proofs.SmallScale.{lifted, lifted_most, sum_fits, sum_is, cast_is}
+use Rattle.std.proofs.Common.{arith}
+use Rattle.posit.proofs.SmallScale.{lifted_most, sum_fits, sum_is, cast_is}
 use Rattle.posit.proofs.Summed.{size_less, sum_size, same_signs, other_signs}
 use Rattle.posit.proofs.inner.sum.exact_sum.Goals as goal
-use Rattle.posit.proofs.inner.sum.exact_sum.Goals.{After-widened-x, After-widened-y}
 
-pub overflow_add-s : goal.overflow_add-s
-overflow_add-s c = sum_fits c.requires.0
+pub overflow_add-x : goal.overflow_add-x
+overflow_add-x c = sum_fits c.args.x.small
 
-pub overflow_cast-s : goal.overflow_cast-s
-overflow_cast-s c = rw (sum_is c.requires.0) (tt, omega (arith, lifted_most c.requires.0))
+pub overflow_cast-x : goal.overflow_cast-x
+overflow_cast-x c = rw (sum_is c.args.x.small) (tt, omega (arith, lifted_most c.args.x.small))
 
-pub widened-x-requires : goal.widened-x-requires
-widened-x-requires c = rw (cast_is c.requires.0) (c.requires.0.few, lifted_most c.requires.0)
+pub widened-left-requires : goal.widened-left-requires
+widened-left-requires c = rw (cast_is c.args.x.small) (c.args.x.small.few, lifted_most c.args.x.small)
 
-left_size : (c : After-widened-x) → number c.widened-x.result ≡ c.args.g * 2 ^ lifted c.args.s
-left_size c = rw (cast_is c.requires.0) at c.widened-x.ensures
+pub overflow_add-y : goal.overflow_add-y
+overflow_add-y c = sum_fits c.args.y.small
 
-pub overflow_add-t : goal.overflow_add-t
-overflow_add-t c = sum_fits c.requires.1
+pub overflow_cast-y : goal.overflow_cast-y
+overflow_cast-y c = rw (sum_is c.args.y.small) (tt, omega (arith, lifted_most c.args.y.small))
 
-pub overflow_cast-t : goal.overflow_cast-t
-overflow_cast-t c = rw (sum_is c.requires.1) (tt, omega (arith, lifted_most c.requires.1))
-
-pub widened-y-requires : goal.widened-y-requires
-widened-y-requires c = rw (cast_is c.requires.1) (c.requires.1.few, lifted_most c.requires.1)
-
-right_size : (c : After-widened-y) → number c.widened-y.result ≡ c.args.h * 2 ^ lifted c.args.t
-right_size c = rw (cast_is c.requires.1) at c.widened-y.ensures
+pub widened-right-requires : goal.widened-right-requires
+widened-right-requires c = rw (cast_is c.args.y.small) (c.args.y.small.few, lifted_most c.args.y.small)
 
 pub wide_sum-requires : goal.wide_sum-requires
-wide_sum-requires c = (size_less c.requires.0 (left_size c.before.before), size_less c.requires.1 (right_size c.before))
+wide_sum-requires c = (size_less c.args.x c.widened-left.ensures, size_less c.args.y c.widened-right.ensures)
 
 pub narrowed-requires : goal.narrowed-requires
-narrowed-requires c = sum_size c.requires.0 c.requires.1 (left_size c.before.before.before) (right_size c.before.before) c.wide_sum.ensures
+narrowed-requires c = sum_size c.args.x c.args.y c.widened-left.ensures c.widened-right.ensures c.wide_sum.ensures
 
-pub returns-then-minus-less : goal.returns-then-minus-less
-returns-then-minus-less c = same_signs c.requires.0 c.requires.1 (left_size c.before.before.before.before) (right_size c.before.before.before) c.args.minus c.args.less _ c.if-minus-less.true c.wide_sum.ensures c.narrowed.ensures
+pub returns-then-x-y : goal.returns-then-x-y
+returns-then-x-y c =
+    same_signs c.args.x c.args.y c.widened-left.ensures c.widened-right.ensures _ c.narrowed.result c.if-x-y.true c.wide_sum.ensures c.narrowed.ensures
 
 pub difference-requires : goal.difference-requires
-difference-requires c = (size_less c.requires.0 (left_size c.before.before), size_less c.requires.1 (right_size c.before))
+difference-requires c = (size_less c.args.x c.widened-left.ensures, size_less c.args.y c.widened-right.ensures)
 
 pub returns : goal.returns
-returns c = other_signs c.requires.0 c.requires.1 (left_size c.before.before.before) (right_size c.before.before) c.args.minus c.args.less c.difference.result c.if-minus-less.false c.difference.ensures
+returns c = other_signs c.args.x c.args.y c.widened-left.ensures c.widened-right.ensures _ c.if-x-y.false c.difference.ensures

@@ -1,21 +1,12 @@
 -- `posit::inner::wide::narrowed` meets its contract: what is cut off below the word's 62 bits is marked, and a narrow number is moved up.
-use Rattle.std.proofs.Common.{◌^◌, ◌<◌, le-add_right, pos_of_ne-zero, arith, pow_pos}
+use Rattle.std.proofs.Common.{◌^◌, ◌<◌, le-add_right, arith}
 use mir.ValLaws.{Fits-le}
-use Rattle.posit.proofs.KnownWide.{narrow_low, narrow_word, narrow_two, highest_small, top_fits}
+use Rattle.posit.proofs.KnownWide.{narrow_two, highest_small, top_fits, top_less, top_enough}
 use Rattle.posit.proofs.inner.wide.narrowed.Goals as goal
 use Rattle.posit.proofs.inner.wide.narrowed.Goals.{Start}
 
 low_fits : (c : Start) → c.args.x.low < 2 ^ 64
 low_fits c = c.well_formed.0.1.1.1.0.1
-
-pub returns-then-low-lt-NARROW : goal.returns-then-low-lt-NARROW
-returns-then-low-lt-NARROW c = narrow_low _ _ c.if-high-eq0.true c.requires.0 c.if-low-lt-NARROW.true
-
-pub returns-then-high-eq0 : goal.returns-then-high-eq0
-returns-then-high-eq0 c = narrow_word _ _ c.if-high-eq0.true c.if-low-lt-NARROW.false (low_fits c.before.before)
-
-pub highest_bit-k-requires : goal.highest_bit-k-requires
-highest_bit-k-requires c = pos_of_ne-zero c.if-high-eq0.false
 
 pub overflow_add-k : goal.overflow_add-k
 overflow_add-k c = omega (arith, highest_small _ _ _ c.highest_bit-k.ensures c.requires.1)
@@ -27,16 +18,23 @@ pub overflow_sub-k : goal.overflow_sub-k
 overflow_sub-k c = omega (arith, highest_small _ _ _ c.highest_bit-k.ensures c.requires.1)
 
 pub overflow_mul-result-2 : goal.overflow_mul-result-2
-overflow_mul-result-2 c = rw c.power.ensures (Fits-le (le-add_right _ _) (top_fits _ _ _ c.highest_bit-k.ensures c.requires.1 (low_fits c.before.before.before.before)))
-
-pub nonzero_div-result-2 : goal.nonzero_div-result-2
-nonzero_div-result-2 c = rw c.power-cut.ensures (pow_pos _)
+overflow_mul-result-2 c = rw c.power.ensures (Fits-le (le-add_right _ _) (top_fits _ _ _ c.highest_bit-k.ensures c.requires.1 (low_fits (goal.at.overflow_mul-result-2 c).Start)))
 
 pub overflow_add-result-2 : goal.overflow_add-result-2
-overflow_add-result-2 c = rw (c.power.ensures, c.power-cut.ensures) (top_fits _ _ _ c.highest_bit-k.ensures c.requires.1 (low_fits c.before.before.before.before))
-
-pub nonzero_rem-result-2 : goal.nonzero_rem-result-2
-nonzero_rem-result-2 c = rw c.power-cut.ensures (pow_pos _)
+overflow_add-result-2 c = rw (c.power.ensures, c.power-cut.ensures) (top_fits _ _ _ c.highest_bit-k.ensures c.requires.1 (low_fits (goal.at.overflow_add-result-2 c).Start))
 
 pub returns : goal.returns
-returns c = rw (c.power.ensures, c.power-cut.ensures) (narrow_two _ _ _ c.highest_bit-k.ensures c.requires.1 (low_fits c.before.before.before.before))
+returns c = rw (c.power.ensures, c.power-cut.ensures) (narrow_two _ _ _ c.highest_bit-k.ensures c.requires.1 (low_fits (goal.at.returns c).Start))
+
+pub invariant_of-result-2-clause-g_from : goal.invariant_of-result-2-clause-g_from
+invariant_of-result-2-clause-g_from c =
+    rw (c.power.ensures, c.power-cut.ensures)
+    (omega (arith, top_enough _ _ _ c.highest_bit-k.ensures c.requires.1 (low_fits (goal.at.invariant_of-result-2-clause-g_from c).Start)))
+
+pub invariant_of-result-2-clause-g_below : goal.invariant_of-result-2-clause-g_below
+invariant_of-result-2-clause-g_below c =
+    rw (c.power.ensures, c.power-cut.ensures)
+    (top_less _ _ _ c.highest_bit-k.ensures c.requires.1 (low_fits (goal.at.invariant_of-result-2-clause-g_below c).Start))
+
+pub invariant_of-result-2-clause-s_below : goal.invariant_of-result-2-clause-s_below
+invariant_of-result-2-clause-s_below c = omega (arith, highest_small _ _ _ c.highest_bit-k.ensures c.requires.1)

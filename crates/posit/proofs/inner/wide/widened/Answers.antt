@@ -1,19 +1,7 @@
 -- `posit::inner::wide::widened` meets its contract: a number of 14 bits stays within a word below 2^32 and from 2^64 on, and between them it is cut at the end of the low word.
-use Rattle.std.proofs.Common.{arith, pow_pos}
+use Rattle.std.proofs.Common.{arith}
 use Rattle.posit.proofs.TwoWords.{moved_fits, moved, cut_fits, cut_number}
 use Rattle.posit.proofs.inner.wide.widened.Goals as goal
-
-pub overflow_mul-result : goal.overflow_mul-result
-overflow_mul-result c = rw c.power.ensures (moved_fits _ _ c.requires.0 (omega arith))
-
-pub returns-then-e-lt32 : goal.returns-then-e-lt32
-returns-then-e-lt32 c = rw c.power.ensures (omega arith)
-
-pub nonzero_div-result : goal.nonzero_div-result
-nonzero_div-result c = rw c.power-cut.ensures (pow_pos _)
-
-pub nonzero_rem-result : goal.nonzero_rem-result
-nonzero_rem-result c = rw c.power-cut.ensures (pow_pos _)
 
 pub overflow_mul-result-then-e-lt64 : goal.overflow_mul-result-then-e-lt64
 overflow_mul-result-then-e-lt64 c = rw (c.power-cut.ensures, c.power-then-e-lt64.ensures) (cut_fits _ _ (omega arith))

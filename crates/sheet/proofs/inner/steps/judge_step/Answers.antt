@@ -1,108 +1,57 @@
 -- `sheet::inner::steps::judge_step` meets its contract: its tests are those of a step, in their order.
-use mathlib.Core.Path.{◌≡◌, refl, sym, ap, ◌∙◌, subst}
-use mathlib.Core.List.{List, [], ◌∷◌}
-use Prim.Native.Nat.{ℕ, ◌<◌}
-use lib.IntN.{pos}
-use native.Mathlib.Omega.{arith}
-use lib.ListN.{length, get_or, take}
-use lib.Seq.{length-take-le, get_or-take}
+use Rattle.std.proofs.Common.{◌≡◌, [], ◌∷◌, ◌≤◌, ◌<◌, ℕ, length, get_or, refl, sym, subst, ◌∙◌}
 use borrow.Author.Tests.{lt-ltb, le-ltb}
-use Rattle.exact.specs.Fraction.{whole}
-use Rattle.word.specs.Member.{Real, is_member}
-use Rattle.call.specs.Operation.{operation_test_at}
-use Rattle.sheet.specs.Refusal.{earlier_test}
+use Rattle.call.specs.declared.operation.Operation.{Operation}
+use Rattle.call.specs.Operation.{number_of, operation_test_at}
+use Rattle.call.specs.Verdict.{first_hit, done, refused}
 use Rattle.column.specs.Refusal.{divisor_test_at}
-use Rattle.call.proofs.Tests.{Passing, all_pass, one_passes, passing_both}
-use Rattle.call.proofs.Said.{says_hit, says_done}
-use Rattle.column.proofs.Pairs.{divisor_hits, divisor_passes, not_a_division}
+use Rattle.call.proofs.Answered.{passes_on}
+use Rattle.call.proofs.Tests.{Passing, all_pass, one_passes, passing_both, passing_skips}
+use Rattle.call.proofs.Said.{refused_hit, refused_next}
+use Rattle.posit.proofs.Calls.{known}
+use Rattle.sheet.specs.Refusal.{earlier_test}
 use Rattle.sheet.proofs.Steps.{left_not_earlier, right_not_earlier, both_earlier}
 use Rattle.sheet.proofs.inner.steps.judge_step.Goals as goal
-use Rattle.sheet.proofs.inner.steps.judge_step.Goals.{After-has_zero, Else-op-gt-LAST_OPERATION, Else-row-right, Start}
-
--- ---- at the start: the rows so far, as many as the row says
-worked : (c : Start) → List ℕ
-worked c = take c.args.row c.args.rows.now
-
-as_many : (c : Start) → length (worked c) ≡ c.args.row
-unfolding worked
-as_many c = length-take-le c.args.row c.args.rows.now (omega arith)
 
 -- ---- the tests that have passed
-operation_passed : (c : Else-op-gt-LAST_OPERATION) → Passing (operation_test_at (length (worked (goal.at.Else-op-gt-LAST_OPERATION c).Start)) c.args.op ∷ [])
-operation_passed c = one_passes (le-ltb 3 _ c.if-op-gt-LAST_OPERATION.false) all_pass
+operation_passed : (place op : ℕ) (o : Operation) → number_of o ≡ op → Passing (operation_test_at place op ∷ [])
+operation_passed place op o names = one_passes (le-ltb 3 op (subst (λ (k : ℕ). k ≤ 3) names (known o))) all_pass
 
-earlier_passed : (c : Else-row-right) → let s = (goal.at.Else-row-right c).Start in
-    Passing (operation_test_at (length (worked s)) s.args.op ∷ earlier_test (length (worked s)) s.args.left s.args.right ∷ [])
-earlier_passed c =
-    let s = (goal.at.Else-row-right c).Start in
-    passing_both (operation_passed (goal.at.Else-row-right c).Else-op-gt-LAST_OPERATION)
-    (one_passes (both_earlier s.args.left s.args.right (as_many s) c.if-row-left.false c.if-row-right.false) all_pass)
+module _ (k left right op : ℕ) (o : Operation) (names : number_of o ≡ op) where
+  rows_passed : left < k → right < k → Passing (operation_test_at k op ∷ earlier_test k left right ∷ [])
+  rows_passed h j = passing_both (operation_passed k op o names) (one_passes (both_earlier left right refl h j) all_pass)
 
--- ---- the divisor is the right row's word
-divisor_is : (c : Else-row-right) → let s = (goal.at.Else-row-right c).Start in get_or (worked s) s.args.right 0 ≡ get_or s.args.rows.now s.args.right 0
-unfolding worked
-divisor_is c = get_or-take c.args.row c.args.rows.now c.args.right 0 c.if-row-right.false
-
-pub returns-then-op-gt-LAST_OPERATION : goal.returns-then-op-gt-LAST_OPERATION
-unfolding worked
-returns-then-op-gt-LAST_OPERATION c =
-    let s = (goal.at.returns-then-op-gt-LAST_OPERATION c).Start in
-    says_hit all_pass (operation_test_at (length (worked s)) s.args.op) _ (lt-ltb 3 _ c.if-op-gt-LAST_OPERATION.true) refl (sym (as_many s))
+pub returns-in-Err : goal.returns-in-Err
+returns-in-Err c =
+    rw (c.at.ensures, c.in-Err.ensures.0) (refused_hit all_pass (operation_test_at (length c.args.rows.now) c.args.op) _ (lt-ltb 3 _ c.in-Err.ensures.1) refl)
 
 pub returns-then-row-left : goal.returns-then-row-left
-unfolding worked
 returns-then-row-left c =
-    let s = (goal.at.returns-then-row-left c).Start in
-    says_hit (operation_passed (goal.at.returns-then-row-left c).Else-op-gt-LAST_OPERATION) (earlier_test (length (worked s)) s.args.left s.args.right) _
-    (left_not_earlier s.args.left s.args.right (as_many s) c.if-row-left.true) refl (sym (as_many s))
+    let a = c.args in
+    let k = length a.rows.now in
+    rw c.at-then-row-left.ensures
+    (refused_hit (operation_passed k a.op c.in-Ok.op c.in-Ok.ensures) (earlier_test k a.left a.right) _ (left_not_earlier a.left a.right refl c.if-row-left.true) refl)
 
 pub returns-then-row-right : goal.returns-then-row-right
-unfolding worked
 returns-then-row-right c =
-    let s = (goal.at.returns-then-row-right c).Start in
-    says_hit (operation_passed (goal.at.returns-then-row-right c).Else-op-gt-LAST_OPERATION) (earlier_test (length (worked s)) s.args.left s.args.right) _
-    (right_not_earlier s.args.left s.args.right (as_many s) c.if-row-right.true) refl (sym (as_many s))
+    let a = c.args in
+    let k = length a.rows.now in
+    rw c.at-then-row-right.ensures
+    (refused_hit (operation_passed k a.op c.in-Ok.op c.in-Ok.ensures) (earlier_test k a.left a.right) _ (right_not_earlier a.left a.right refl c.if-row-right.true) refl)
 
-pub has_zero-requires : goal.has_zero-requires
-unfolding worked
-has_zero-requires c =
-    let e = (goal.at.has_zero-requires c).Else-row-right in
-    let s = (goal.at.has_zero-requires c).Start in
-    (s.requires.0, subst (λ (w : ℕ). Real s.args.n w) (divisor_is e) (s.requires.3 s.args.right (subst (λ (k : ℕ). s.args.right < k) (sym (as_many s)) c.if-row-right.false)))
+pub returns-in_err-judge_divisor : goal.returns-in_err-judge_divisor
+returns-in_err-judge_divisor c =
+    let a = c.args in
+    let k = length a.rows.now in
+    passes_on _ _ _ c.from_residual.ensures
+    (refused_next (rows_passed k a.left a.right a.op c.in-Ok.op c.in-Ok.ensures c.if-row-left.false c.if-row-right.false) _
+    (subst (λ (o : ℕ). first_hit (divisor_test_at a.f.n a.f.es k o (get_or a.rows.now a.right 0) ∷ []) ≡ refused c.in_err-judge_divisor.field-0.0) c.in-Ok.ensures c.in_err-judge_divisor.ensures))
 
--- what `has_zero` said, of the divisor as the tests name it
-zero_said : (c : After-has_zero) → let s = (goal.at.After-has_zero c).Start in
-    c.has_zero.result ≡ is_member s.args.n s.args.es (get_or (worked s) s.args.right 0) (whole (pos 0))
-zero_said c =
-    let e = (goal.at.After-has_zero c).Else-row-right in
-    c.has_zero.ensures ∙ ap (λ (w : ℕ). is_member c.args.n c.args.es w (whole (pos 0))) (sym (divisor_is e))
-
-pub returns-then-has_zero : goal.returns-then-has_zero
-unfolding worked
-returns-then-has_zero c =
-    let e = (goal.at.returns-then-has_zero c).Else-row-right in
-    let s = (goal.at.returns-then-has_zero c).Start in
-    let w = get_or (worked s) s.args.right 0 in
-    says_hit (earlier_passed e) (divisor_test_at s.args.n s.args.es (length (worked s)) s.args.op w) []
-    (divisor_hits s.args.n s.args.es (length (worked s)) s.args.op w (zero_said (goal.at.returns-then-has_zero c).After-has_zero) c.if-op-eq-DIVIDE.true c.if-has_zero.true)
-    refl (sym (as_many s))
-
-pub returns-else-has_zero : goal.returns-else-has_zero
-unfolding worked
-returns-else-has_zero c =
-    let e = (goal.at.returns-else-has_zero c).Else-row-right in
-    let s = (goal.at.returns-else-has_zero c).Start in
-    let w = get_or (worked s) s.args.right 0 in
-    says_done
-    (passing_both (earlier_passed e)
-    (one_passes (divisor_passes s.args.n s.args.es (length (worked s)) s.args.op w (zero_said (goal.at.returns-else-has_zero c).After-has_zero) c.if-has_zero.false) all_pass))
-
-pub returns-else-op-eq-DIVIDE : goal.returns-else-op-eq-DIVIDE
-unfolding worked
-returns-else-op-eq-DIVIDE c =
-    let e = (goal.at.returns-else-op-eq-DIVIDE c).Else-row-right in
-    let s = (goal.at.returns-else-op-eq-DIVIDE c).Start in
-    let w = get_or (worked s) s.args.right 0 in
-    says_done
-    (passing_both (earlier_passed e)
-    (one_passes (not_a_division s.args.n s.args.es (length (worked s)) s.args.op w c.if-op-eq-DIVIDE.false) all_pass))
+pub returns : goal.returns
+returns c =
+    let a = c.args in
+    let k = length a.rows.now in (
+      passing_skips (rows_passed k a.left a.right a.op c.in-Ok.op c.in-Ok.ensures c.if-row-left.false c.if-row-right.false) _
+          ∙ subst (λ (o : ℕ). first_hit (divisor_test_at a.f.n a.f.es k o (get_or a.rows.now a.right 0) ∷ []) ≡ done) c.in-Ok.ensures c.in_ok-judge_divisor.ensures.0,
+      sym c.in-Ok.ensures,
+    )

@@ -1,33 +1,25 @@
 -- `signs::inner::multiply::multiply_cells` meets its contract: an empty operand has no products, and those of others are found as cells.
-use mathlib.Core.Path.{ap, ◌∙◌}
 use native.Mathlib.Omega.{arith}
 use Rattle.posit.proofs.Mirror.{power_wider}
-use Rattle.word.specs.Spans.{word_at}
 use Rattle.word.proofs.Tiles.{half_large}
 use Rattle.signs.proofs.NoOperand.{left_empty_product, right_empty_product}
 use Rattle.signs.proofs.ByStages.{product_there}
 use Rattle.signs.proofs.inner.multiply.multiply_cells.Goals as goal
 
 pub joined-requires : goal.joined-requires
-joined-requires c = omega (arith, power_wider c.args.n, half_large c.requires.0.wide_enough)
+joined-requires c = omega (arith, power_wider c.args.f.n, half_large c.args.f.wide_enough)
 
 pub returns-then-x : goal.returns-then-x
 returns-then-x c =
-    let start = c.before.before.before in
-    left_empty_product start.args.n start.requires.0.wide_enough start.args.es start.args.x start.args.y c.joined.ensures start.requires.1 c.if-x.true
+    left_empty_product c.args.f.n c.args.f.wide_enough c.args.f.es c.args.x c.args.y c.joined.ensures c.requires.0 c.if-x.true
 
 pub joined-requires-then-y : goal.joined-requires-then-y
-joined-requires-then-y c = omega (arith, power_wider c.args.n, half_large c.requires.0.wide_enough)
+joined-requires-then-y c = omega (arith, power_wider c.args.f.n, half_large c.args.f.wide_enough)
 
 pub returns-then-y : goal.returns-then-y
 returns-then-y c =
-    let start = c.before.before.before.before.before in
-    right_empty_product start.args.n start.requires.0.wide_enough start.args.es start.args.x start.args.y c.joined-then-y.ensures start.requires.2 c.if-y.true
+    right_empty_product c.args.f.n c.args.f.wide_enough c.args.f.es c.args.x c.args.y c.joined-then-y.ensures c.requires.1 c.if-y.true
 
 pub word_of-requires : goal.word_of-requires
 word_of-requires c =
-    let start = c.before.before.before.before.before in
-    (start.requires.0.wide_enough, start.requires.0.not_too_wide, rw c.some_products.ensures (product_there start.args.n start.args.es start.requires.0.wide_enough start.args.x start.args.y))
-
-pub returns : goal.returns
-returns c = c.word_of.ensures ∙ ap (word_at c.args.n) c.some_products.ensures
+    (rw c.some_products.ensures (product_there c.args.f.n c.args.f.es c.args.f.wide_enough c.args.x c.args.y))

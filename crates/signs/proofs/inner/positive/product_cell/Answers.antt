@@ -1,9 +1,10 @@
 -- `signs::inner::positive::product_cell` meets its contract: the codes say what the posits are, so their exact product has its step.
+use Rattle.posit.proofs.Formats.{within}
 use Rattle.cell.proofs.ResultCell.{known_fits, known_cell, same_product}
 use Rattle.signs.proofs.inner.positive.product_cell.Goals as goal
 
 pub above_zero-requires : goal.above_zero-requires
-above_zero-requires c = (c.requires.0.not_too_wide, known_fits c.requires.0 c.product.ensures c.step_of.ensures)
+above_zero-requires c = known_fits (within c.args.f) c.product.ensures c.step_of.ensures
 
 pub returns : goal.returns
-returns c = known_cell c.requires.0 c.product.ensures c.step_of.ensures (same_product c.code_of.ensures c.code_of-2.ensures) c.above_zero.ensures
+returns c = known_cell (within c.args.f) c.product.ensures c.step_of.ensures (same_product c.code_of.ensures c.code_of-2.ensures) c.above_zero.ensures

@@ -19,11 +19,11 @@ pub nonzero_rem-word : goal.nonzero_rem-word
 nonzero_rem-word c = subst (λ (t : ℕ). 0 < t) (sym c.power-tiles.ensures) (pow_pos _)
 
 -- ---- the fields of the two tiles
-start_fields : (c : After-end_fields-start) → let a = c.args in c.end_fields-start.result ≡ end_fields (start_tile a.n a.word)
+start_fields : (c : After-end_fields-start) → let a = c.args in c.end_fields-start.result ≡ end_fields (start_tile a.f.n a.word)
 start_fields c =
     c.end_fields-start.ensures ∙ ap (λ (t : ℕ). end_fields (c.args.word / t)) c.power-tiles.ensures
 
-end_fields_says : (c : After-end_fields-end) → let a = c.args in c.end_fields-end.result ≡ end_fields (end_tile a.n a.word)
+end_fields_says : (c : After-end_fields-end) → let a = c.args in c.end_fields-end.result ≡ end_fields (end_tile a.f.n a.word)
 end_fields_says c =
     c.end_fields-end.ensures ∙ ap (λ (t : ℕ). end_fields (c.args.word % t)) c.power-tiles.ensures
 
@@ -36,7 +36,7 @@ returns c =
     let start = start_fields (goal.at.returns c).After-end_fields-start in
     let both =
     ap (λ (l : List ℕ). l ++ e.end_fields-end.result) start
-    ∙ ap (λ (l : List ℕ). end_fields (start_tile a.n a.word) ++ l) (end_fields_says e)
+    ∙ ap (λ (l : List ℕ). end_fields (start_tile a.f.n a.word) ++ l) (end_fields_says e)
     in
     subst (λ (bytes : List ℕ). Put a.at bytes a.buffer.now q.new.buffer q.result) both
-    (put_next p.ensures (omega (arith, ap length start, e.requires.1)) q.ensures)
+    (put_next p.ensures (omega (arith, ap length start, e.requires)) q.ensures)

@@ -13,20 +13,20 @@ use Rattle.text.proofs.inner.lines.put_row.Goals.{After-put_ends-ended, After-pu
 -- ---- the line so far
 module _ (c : Start) where
   number_room : c.args.at + length (row_word ++ field (decimal c.args.row)) + 15 ≤ length c.args.buffer.now
-  number_room = omega (arith, row_digits c.args.row c.requires.1, c.requires.2)
+  number_room = omega (arith, row_digits c.args.row c.requires.0, c.requires.1)
 
-  ends_room : c.args.at + length (row_word ++ field (decimal c.args.row) ++ range_fields c.args.n c.args.word) + 1 ≤ length c.args.buffer.now
+  ends_room : c.args.at + length (row_word ++ field (decimal c.args.row) ++ range_fields c.args.f.n c.args.word) + 1 ≤ length c.args.buffer.now
   ends_room =
       omega
-      (arith, row_digits c.args.row c.requires.1, length-append (decimal c.args.row) (range_fields c.args.n c.args.word), c.requires.2)
+      (arith, row_digits c.args.row c.requires.0, length-append (decimal c.args.row) (range_fields c.args.f.n c.args.word), c.requires.1)
 
 numbered : (c : After-put_number-numbered) → let a = c.args in
     Put a.at (row_word ++ field (decimal a.row)) a.buffer.now c.put_number-numbered.new.buffer c.put_number-numbered.result
 numbered c =
-    put_next c.put-named.ensures (omega (arith, c.requires.2)) c.put_number-numbered.ensures
+    put_next c.put-named.ensures (omega (arith, c.requires.1)) c.put_number-numbered.ensures
 
 ended : (c : After-put_ends-ended) → let a = c.args in
-    Put a.at (row_word ++ field (decimal a.row) ++ range_fields a.n a.word) a.buffer.now c.put_ends-ended.new.buffer c.put_ends-ended.result
+    Put a.at (row_word ++ field (decimal a.row) ++ range_fields a.f.n a.word) a.buffer.now c.put_ends-ended.new.buffer c.put_ends-ended.result
 ended c =
     let b = (goal.at.After-put_ends-ended c).After-put_number-numbered in
     put_next (numbered b) (omega (arith, number_room (goal.at.After-put_ends-ended c).Start)) c.put_ends-ended.ensures
@@ -36,13 +36,13 @@ pub put_number-numbered-requires : goal.put_number-numbered-requires
 put_number-numbered-requires c =
     let s = (goal.at.put_number-numbered-requires c).Start in
     let p = c.put-named.ensures in
-    omega (arith, p.next, put_length p (omega (arith, s.requires.2)), number_room s)
+    omega (arith, p.next, put_length p (omega (arith, s.requires.1)), number_room s)
 
 pub put_ends-ended-requires : goal.put_ends-ended-requires
 put_ends-ended-requires c =
     let b = (goal.at.put_ends-ended-requires c).After-put_number-numbered in
     let s = (goal.at.put_ends-ended-requires c).Start in
-    (s.requires.0, omega (arith, (numbered b).next, put_length (numbered b) (omega (arith, number_room s)), number_room s))
+    (omega (arith, (numbered b).next, put_length (numbered b) (omega (arith, number_room s)), number_room s))
 
 pub put-requires : goal.put-requires
 put-requires c =

@@ -17,12 +17,12 @@ unfolding row_lines
 loop-i-init c = (omega arith, omega arith, refl, put_nothing _)
 
 pub overflow_cast-i : goal.overflow_cast-i
-overflow_cast-i c = record { fits = omega (arith, c.requires.1) }
+overflow_cast-i c = record { fits = omega (arith, c.requires.0) }
 
 pub put_row-at-requires : goal.put_row-at-requires
 put_row-at-requires c =
     let l = c.loop-i in
-    (c.requires.0, omega (arith, c.requires.1), omega (arith, c.requires.2, l.invariant.1, l.invariant.2, c.loop-i-test.true))
+    (omega (arith, c.requires.0), omega (arith, c.requires.1, l.invariant.1, l.invariant.2, c.loop-i-test.true))
 
 pub loop-i-preserved : goal.loop-i-preserved
 loop-i-preserved c =
@@ -30,13 +30,13 @@ loop-i-preserved c =
     let p = c.put_row-at in
     let more = c.loop-i-test.true in
     let so_far = l.invariant.3 in
-    let short = line_length c.args.n l.i (get_or c.args.rows.now l.i 0) (omega (arith, c.requires.1)) in
+    let short = line_length c.args.f.n l.i (get_or c.args.rows.now l.i 0) (omega (arith, c.requires.0)) in
     let bound : p.result ≤ 21 * (l.i + 1) = omega (arith, p.ensures.next, l.invariant.1) in
     let next =
-    subst (λ (text : List ℕ). Put 0 text c.args.buffer.now p.new.buffer p.result) (sym (next_line c.args.n c.args.rows.now l.i more))
-    (put_next so_far (omega (arith, so_far.next, c.requires.2)) p.ensures)
+    subst (λ (text : List ℕ). Put 0 text c.args.buffer.now p.new.buffer p.result) (sym (next_line c.args.f.n c.args.rows.now l.i more))
+    (put_next so_far (omega (arith, so_far.next, c.requires.1)) p.ensures)
     in
-    (omega arith, bound, put_length next (omega (arith, next.next, c.requires.2)), next)
+    (omega arith, bound, put_length next (omega (arith, next.next, c.requires.1)), next)
 
 pub shape_of-buffer : goal.shape_of-buffer
 shape_of-buffer c = c.loop-i.invariant.2
@@ -45,4 +45,4 @@ pub returns : goal.returns
 returns c =
     let l = c.loop-i in
     let all = take_all l.i c.args.rows.now (omega arith) in
-    subst (λ (rows : List ℕ). Put 0 (row_lines c.args.n 0 rows) c.args.buffer.now l.buffer l.at) all l.invariant.3
+    subst (λ (rows : List ℕ). Put 0 (row_lines c.args.f.n 0 rows) c.args.buffer.now l.buffer l.at) all l.invariant.3

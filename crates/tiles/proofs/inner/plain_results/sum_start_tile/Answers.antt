@@ -6,34 +6,22 @@ use Rattle.tiles.proofs.inner.plain_results.sum_start_tile.Goals as goal
 
 pub returns-then-s-eq-OPEN_ZERO : goal.returns-then-s-eq-OPEN_ZERO
 returns-then-s-eq-OPEN_ZERO c =
-    let start = c.before in
-    let wide = start.requires.0.wide_enough in
-    sums_from_right start.args.n start.args.es wide start.args.s start.args.t (start_finite start.args.n wide start.requires.1) (start_finite start.args.n wide start.requires.2) c.if-s-eq-OPEN_ZERO.true
+    let wide = c.args.f.wide_enough in
+    sums_from_right c.args.f.n c.args.f.es wide c.args.s c.args.t (start_finite c.args.f.n wide c.requires.0) (start_finite c.args.f.n wide c.requires.1) c.if-s-eq-OPEN_ZERO.true
 
 pub returns-then-t-eq-OPEN_ZERO : goal.returns-then-t-eq-OPEN_ZERO
 returns-then-t-eq-OPEN_ZERO c =
-    let start = c.before.before in
-    let wide = start.requires.0.wide_enough in
-    sums_from_left start.args.n start.args.es wide start.args.s start.args.t (start_finite start.args.n wide start.requires.1) (start_finite start.args.n wide start.requires.2) c.if-t-eq-OPEN_ZERO.true
-
-pub total_cell-requires : goal.total_cell-requires
-total_cell-requires c =
-    let start = c.before.before in
-    let p = start_posit_fits start.args.n start.requires.0.wide_enough start.requires.1 c.if-s-eq-OPEN_ZERO.false in
-    let q = start_posit_fits start.args.n start.requires.0.wide_enough start.requires.2 c.if-t-eq-OPEN_ZERO.false in
-    (start.requires.0, p.0, p.1, q.0, q.1)
+    let wide = c.args.f.wide_enough in
+    sums_from_left c.args.f.n c.args.f.es wide c.args.s c.args.t (start_finite c.args.f.n wide c.requires.0) (start_finite c.args.f.n wide c.requires.1) c.if-t-eq-OPEN_ZERO.true
 
 pub start_tile_from-requires : goal.start_tile_from-requires
 start_tile_from-requires c =
-    let start = c.before.before.before in
-    let wide = start.requires.0.wide_enough in
-    let p = start_posit_fits start.args.n wide start.requires.1 c.if-s-eq-OPEN_ZERO.false in
-    let q = start_posit_fits start.args.n wide start.requires.2 c.if-t-eq-OPEN_ZERO.false in
-    let k = sum_cell_above start.args.n start.args.es wide p q c.total_cell.ensures in
-    (wide, start.requires.0.not_too_wide, k.0, k.1)
+    let wide = c.args.f.wide_enough in
+    let p = start_posit_fits c.args.f.n wide c.requires.0 c.if-s-eq-OPEN_ZERO.false in
+    let q = start_posit_fits c.args.f.n wide c.requires.1 c.if-t-eq-OPEN_ZERO.false in
+    sum_cell_above c.args.f.n c.args.f.es wide p q c.total_cell.ensures
 
 pub returns : goal.returns
 returns c =
-    let start = c.before.before.before.before in
-    let wide = start.requires.0.wide_enough in
-    sums_start start.args.n start.args.es wide start.args.s start.args.t (start_finite start.args.n wide start.requires.1) (start_finite start.args.n wide start.requires.2) c.total_cell.ensures c.start_tile_from.ensures
+    let wide = c.args.f.wide_enough in
+    sums_start c.args.f.n c.args.f.es wide c.args.s c.args.t (start_finite c.args.f.n wide c.requires.0) (start_finite c.args.f.n wide c.requires.1) c.total_cell.ensures c.start_tile_from.ensures

@@ -1,9 +1,9 @@
--- `word::inner::judge::judge_word` meets its contract: the word is refused by the same number at every place.
-use Rattle.word.proofs.Taking.{says_refused, says_done}
+-- `word::inner::judge::judge_word` meets its contract: what taking the word apart says of it is its verdict at every place.
+use Rattle.word.proofs.Verdicts.{real_done}
 use Rattle.word.proofs.inner.judge.judge_word.Goals as goal
 
-pub returns-then-number-ne-DONE : goal.returns-then-number-ne-DONE
-returns-then-number-ne-DONE c = says_refused c.take_word-number.ensures c.args.place c.if-number-ne-DONE.true
+pub returns-in-Ok : goal.returns-in-Ok
+returns-in-Ok c = (real_done _ _ _ c.in-Ok.ensures.0, tt)
 
-pub returns : goal.returns
-returns c = says_done c.take_word-number.ensures c.args.place c.if-number-ne-DONE.false
+pub returns-in-Err : goal.returns-in-Err
+returns-in-Err c = rw c.at.ensures (c.in-Err.ensures c.args.place)

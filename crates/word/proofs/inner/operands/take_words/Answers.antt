@@ -1,32 +1,17 @@
--- `word::inner::operands::take_words` meets its contract: the format, the left word and the right word are tested in this order.
-use mathlib.Core.Path.{sym, ◌∙◌}
-use Rattle.posit.proofs.Verdicts.{format_of}
-use Rattle.word.proofs.Taking.{both_outside, left_refused, right_refused, both_pass}
+-- `word::inner::operands::take_words` meets its contract: the left word is taken apart first, and then the right one.
+use Rattle.std.proofs.Common.{◌∙◌}
+use Rattle.call.proofs.Answered.{passes_on}
+use Rattle.word.proofs.Verdicts.{words_by_left, words_by_right, words_done}
 use Rattle.word.proofs.inner.operands.take_words.Goals as goal
 
-pub returns-then-not-is_format : goal.returns-then-not-is_format
-returns-then-not-is_format c = both_outside _ _ _ _ (sym c.is_format.ensures ∙ c.if-not-is_format.true)
+pub returns-in_err-left : goal.returns-in_err-left
+returns-in_err-left c = passes_on _ _ _ c.from_residual.ensures (words_by_left _ _ _ _ (c.in_err-left.ensures 0))
 
-pub take_word-first-requires : goal.take_word-first-requires
-take_word-first-requires c =
-    let f = format_of {n = c.args.n} {es = c.args.es} (sym c.is_format.ensures ∙ c.if-not-is_format.false) in
-    (f.wide_enough, f.not_too_wide)
+pub returns-in-Ok : goal.returns-in-Ok
+returns-in-Ok c =
+    let left = c.in_ok-left.ensures in
+    let right = c.in-Ok.ensures in
+    (words_done _ _ _ left.0 right.0, record { left_real = left.0; right_real = right.0; left = left.1; right = right.1 })
 
-pub returns-then-number-ne-DONE : goal.returns-then-number-ne-DONE
-returns-then-number-ne-DONE c =
-    left_refused _ _ _ _ (sym c.is_format.ensures ∙ c.if-not-is_format.false) c.take_word-first.ensures c.if-number-ne-DONE.true
-
-pub take_word-second-requires : goal.take_word-second-requires
-take_word-second-requires c =
-    let f = format_of {n = c.args.n} {es = c.args.es} (sym c.is_format.ensures ∙ c.if-not-is_format.false) in
-    (f.wide_enough, f.not_too_wide)
-
-pub returns-then-other-ne-DONE : goal.returns-then-other-ne-DONE
-returns-then-other-ne-DONE c =
-    right_refused _ _ _ _ (sym c.is_format.ensures ∙ c.if-not-is_format.false)
-    c.take_word-first.ensures c.if-number-ne-DONE.false c.take_word-second.ensures c.if-other-ne-DONE.true
-
-pub returns : goal.returns
-returns c =
-    both_pass _ _ _ _ (sym c.is_format.ensures ∙ c.if-not-is_format.false)
-    c.take_word-first.ensures c.if-number-ne-DONE.false c.take_word-second.ensures c.if-other-ne-DONE.false
+pub returns-in-Err : goal.returns-in-Err
+returns-in-Err c = rw c.at.ensures (words_by_right _ _ _ c.in_ok-left.ensures.0 ∙ c.in-Err.ensures 1)

@@ -1,20 +1,14 @@
--- `word::inner::span::end_tile_at` meets its contract: it is the definition, over half the tiles; the topmost cell comes out as an open NaR by itself.
+-- `word::inner::span::end_tile_at` meets its contract: it is the definition; the topmost cell comes out as an open NaR by itself.
+use mathlib.Core.Path.{refl, ◌∙◌}
 use native.Mathlib.Omega.{arith}
 use Rattle.posit.proofs.Mirror.{power_wider}
-use Rattle.word.proofs.Tiles.{half_small, half_large, end_tile_is}
+use Rattle.word.proofs.Tiles.{half_large, end_tile_is}
 use Rattle.word.proofs.inner.span.end_tile_at.Goals as goal
 
-pub overflow_add-result : goal.overflow_add-result
-overflow_add-result c = omega (arith, power_wider c.args.n, half_small c.requires.1)
-
-pub overflow_add-result-2 : goal.overflow_add-result-2
-overflow_add-result-2 c = omega (arith, power_wider c.args.n, half_small c.requires.1)
-
-pub overflow_mul-result-2 : goal.overflow_mul-result-2
-overflow_mul-result-2 c = omega (arith, half_small c.requires.1)
-
-pub nonzero_rem-result-2 : goal.nonzero_rem-result-2
-nonzero_rem-result-2 c = omega (arith, half_large c.requires.0)
+pub half_turn-requires : goal.half_turn-requires
+half_turn-requires c = omega (arith, power_wider c.args.f.n, half_large c.args.f.wide_enough)
 
 pub returns : goal.returns
-returns c = end_tile_is _ c.power32-half.ensures c.requires.0 _
+returns c =
+    let turned = rw (← power_wider c.args.f.n) at (end_tile_is c.args.f.n refl c.args.f.wide_enough c.args.cell) in
+    c.half_turn.ensures ∙ turned

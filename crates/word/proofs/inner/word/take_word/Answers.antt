@@ -1,79 +1,45 @@
--- `word::inner::word::take_word` meets its contract: each of its answers is a law of `Taking`, over the two tiles and half of all tiles.
+-- `word::inner::word::take_word` meets its contract: each of its answers is a law of `Taking`.
 use native.Mathlib.Omega.{arith}
-use Rattle.word.proofs.Taking.{Opened, half_fits, end_there, turned_there, takes_large, takes_closed_start, takes_closed_end, takes_cells, takes_none, takes_turned}
-use Rattle.word.proofs.Tiles.{half_small, half_large}
 use Rattle.word.proofs.Places.{start_tile_of_word}
-use Rattle.posit.proofs.Mirror.{power_wider}
+use Rattle.word.proofs.Taking.{Opened, takes_large, takes_closed_start, takes_closed_end, takes_cells, takes_none, takes_turned}
+use Rattle.word.proofs.Tiles.{closed_half}
 use Rattle.word.proofs.inner.word.take_word.Goals as goal
-use Rattle.word.proofs.inner.word.take_word.Goals.{After-end_tile}
+use Rattle.word.proofs.inner.word.take_word.Goals.{After-end_cell-hi, then-start-closed_nar-via-then-start-closed_nar, then-start-closed_nar-via-else-start-closed_nar+then-end-closed_nar}
 
-opened :
-    (c : After-end_tile)
-    → Opened c.args.n c.args.w c.power32-half.result c.start_tile.result c.end_tile.result
+opened : (c : After-end_cell-hi) → Opened c.args.f.n c.args.w c.start_tile-start.result c.end_tile-end.result c.start_cell-lo.result c.end_cell-hi.result
 opened c =
     record {
-      wide = c.requires.0;
-      narrow = c.requires.1;
+      wide = c.args.f.wide_enough;
       fits = omega arith;
-      is_half = c.power32-half.ensures;
-      start = c.start_tile.ensures;
-      end = c.end_tile.ensures;
+      start = c.start_tile-start.ensures;
+      end = c.end_tile-end.ensures;
+      start_other = omega (arith, closed_half c.args.f.wide_enough);
+      end_other = omega (arith, closed_half c.args.f.wide_enough);
+      first = c.start_cell-lo.ensures;
+      last = c.end_cell-hi.ensures;
     }
 
 pub returns-then-power-w : goal.returns-then-power-w
-returns-then-power-w c = takes_large (omega arith) c.without_cells.ensures
+returns-then-power-w c = takes_large _ _ (omega arith)
 
-pub overflow_mul-all : goal.overflow_mul-all
-overflow_mul-all c = omega (arith, half_small c.requires.1)
+pub returns-then-start-closed_nar : goal.returns-then-start-closed_nar
+returns-then-start-closed_nar c =
+    let half = closed_half c.args.f.wide_enough in
+    elim c.then-start-closed_nar.branch [
+      | then-start-closed_nar-via-then-start-closed_nar w ↦ takes_closed_start _ _ (omega arith) (omega (arith, half, w.if-start-closed_nar.true))
+      | then-start-closed_nar-via-else-start-closed_nar+then-end-closed_nar w ↦ takes_closed_end _ _ (omega arith) (omega (arith, half, w.if-end-closed_nar.true))
+    ]
 
-pub overflow_add-first : goal.overflow_add-first
-overflow_add-first c =
-    omega (
-      arith,
-      start_tile_of_word c.args.n c.requires.0 {w = c.args.w} (omega arith),
-      power_wider c.args.n,
-      half_small c.requires.1,
-    )
-
-pub nonzero_rem-first : goal.nonzero_rem-first
-nonzero_rem-first c = omega (arith, half_large c.requires.0)
-
-pub overflow_add-last : goal.overflow_add-last
-overflow_add-last c = omega (arith, end_there (opened c), half_fits (opened c))
-
-pub nonzero_rem-last : goal.nonzero_rem-last
-nonzero_rem-last c = omega (arith, half_fits (opened c))
-
-pub returns-then-first-eq0 : goal.returns-then-first-eq0
-returns-then-first-eq0 c = takes_closed_start (opened c.before.before) c.if-first-eq0.true c.without_cells-then-first-eq0.ensures
-
-pub returns-then-last-eq0 : goal.returns-then-last-eq0
-returns-then-last-eq0 c = takes_closed_end (opened c.before.before.before) c.if-last-eq0.true c.without_cells-then-last-eq0.ensures
-
-pub overflow_sub-lo : goal.overflow_sub-lo
-overflow_sub-lo c = omega (arith, c.if-first-eq0.false)
-
-pub overflow_add-hi : goal.overflow_add-hi
-overflow_add-hi c = omega (arith, turned_there (opened c.before.before), half_fits (opened c.before.before))
-
-pub overflow_sub-hi : goal.overflow_sub-hi
-overflow_sub-hi c = omega (arith, half_fits (opened c.before.before))
-
-pub overflow_sub-hi-2 : goal.overflow_sub-hi-2
-overflow_sub-hi-2 c = omega (arith, half_fits (opened c.before.before))
-
-pub nonzero_rem-hi-2 : goal.nonzero_rem-hi-2
-nonzero_rem-hi-2 c = omega (arith, half_fits (opened c.before.before))
+pub start_cell-lo-requires : goal.start_cell-lo-requires
+start_cell-lo-requires c =
+    omega (arith, start_tile_of_word c.args.f.n c.args.f.wide_enough {w = c.args.w} (omega arith), closed_half c.args.f.wide_enough)
 
 pub returns-then-lo-hi : goal.returns-then-lo-hi
-returns-then-lo-hi c = takes_cells (opened c.before.before.before) c.if-first-eq0.false c.if-last-eq0.false c.if-lo-hi.true
+returns-then-lo-hi c = takes_cells (opened (goal.at.returns-then-lo-hi c).After-end_cell-hi) c.if-lo-hi.true
 
-pub returns-then-first-last : goal.returns-then-first-last
-returns-then-first-last c =
-    takes_none (opened c.before.before.before.before.before) c.if-first-eq0.false c.if-last-eq0.false
-    c.if-lo-hi.false c.if-first-last.true c.without_cells-then-first-last.ensures
+pub returns-then-start-end : goal.returns-then-start-end
+returns-then-start-end c =
+    rw c.no_cells.ensures (takes_none (opened (goal.at.returns-then-start-end c).After-end_cell-hi) c.if-lo-hi.false c.if-start-end.true)
 
 pub returns : goal.returns
-returns c =
-    takes_turned (opened c.before.before.before.before.before) c.if-first-eq0.false c.if-last-eq0.false
-    c.if-lo-hi.false c.if-first-last.false c.without_cells-2.ensures
+returns c = takes_turned (opened (goal.at.returns c).After-end_cell-hi) c.if-lo-hi.false c.if-start-end.false
