@@ -1,12 +1,11 @@
 -- A magnitude that is known to a word: of z = N / 2^u the number N · 2^j is cut to g · 2^s, and whether anything was cut off is marked.
-use Rattle.std.proofs.Common.{◌≡◌, ℕ, ◌+◌, ◌-◌, ◌*◌, ◌/◌, ◌%◌, ◌^◌, ◌<◌, ◌≤◌, Bool, true, false, not, eqb, pos, sym, ap, ◌∙◌, mul-le-mul_right, mod-lt, div-lt_iff_lt-mul, pos_of_ne-zero, mul-lt-mul_of_pos_right, div-add-mod', arith, pow_pos, pow-add, w64, Fits, eqb-true}
+use Rattle.std.proofs.Common.{◌≡◌, ℕ, suc, ◌+◌, ◌*◌, ◌/◌, ◌%◌, ◌^◌, ◌<◌, ◌≤◌, Bool, true, false, not, eqb, pos, sym, ap, ◌∙◌, mul-le-mul_right, mod-lt, mod-eq_of_lt, pos_of_ne-zero, mul-lt-mul_of_pos_right, div-add-mod', arith, pow_pos, pow-add, eqb-true}
 use borrow.Author.Tests.{eqb-false, not-true, not-false}
+use Rattle.std.specs.Int.Count.{count_leading_zeros}
+use Rattle.std.proofs.lemmas.Nat.{leading_top}
 use Rattle.exact.specs.Fraction.{over_power}
 use Rattle.exact.proofs.OverPower.{over_power_pos_≤ᶠ, over_power_pos_<ᶠ, over_power_pos_≈}
-use Rattle.posit.specs.Parts.{HighestBit}
 use Rattle.posit.specs.Magnitudes.{Within}
-use Rattle.posit.proofs.SetBits.{highest_below}
-use Rattle.posit.proofs.TwoWords.{high_small}
 
 -- ---- a number cut
 module _ (N u j g s t : ℕ) (parts : N * 2 ^ j ≡ g * 2 ^ s + t) (rest : t < 2 ^ s) where
@@ -28,31 +27,32 @@ nothing_lost t e = eqb-true t 0 (not-false (eqb t 0) e)
 pub something_lost : (t : ℕ) → not (eqb t 0) ≡ true → 0 < t
 something_lost t e = pos_of_ne-zero (eqb-false t 0 (not-true (eqb t 0) e))
 
--- ---- a number of two words over 2^56 with a high word, whose highest bit is k: cut to 62 bits
-pub highest_small : (h l k : ℕ) → HighestBit h k → h * 2 ^ 64 + l < 2 ^ 120 → k < 56
-highest_small h l k highest less = highest_below 56 highest (high_small h l less)
+-- ---- a number of 128 bits over 2^56, moved up until its first bit is set and cut to 62 bits
+module _ (x : ℕ) (some : 0 < x) (fits : x < 2 ^ 128) where
+  first_set : (j : ℕ) → count_leading_zeros 128 x + suc j ≡ 128 → 2 ^ j ≤ x → 2 ^ 127 ≤ x * 2 ^ count_leading_zeros 128 x
+  first_set j e h =
+      let z = count_leading_zeros 128 x in
+      let d : j + z ≡ 127 = omega (arith, e) in
+      let s : 2 ^ j * 2 ^ z ≡ 2 ^ 127 = sym (pow-add 2 j z) ∙ ap (λ (k : ℕ). 2 ^ k) d in
+      omega (arith, s, mul-le-mul_right (2 ^ z) h)
 
-module _ (h l k : ℕ) (highest : HighestBit h k) (less : h * 2 ^ 64 + l < 2 ^ 120) (fits : l < 2 ^ 64) where
-  word_split : 2 ^ 64 ≡ 2 ^ (61 - k) * 2 ^ (k + 3)
-  word_split = let e : 64 ≡ 61 - k + (k + 3) = omega (arith, highest_small h l k highest less) in ap (λ (x : ℕ). 2 ^ x) e ∙ pow-add 2 (61 - k) (k + 3)
+  none_out : (j : ℕ) → count_leading_zeros 128 x + suc j ≡ 128 → x < 2 ^ suc j → x * 2 ^ count_leading_zeros 128 x < 2 ^ 128
+  none_out j e h =
+      let z = count_leading_zeros 128 x in
+      let d : suc j + z ≡ 128 = omega (arith, e) in
+      let s : 2 ^ suc j * 2 ^ z ≡ 2 ^ 128 = sym (pow-add 2 (suc j) z) ∙ ap (λ (k : ℕ). 2 ^ k) d in
+      omega (arith, s, mul-lt-mul_of_pos_right h (pow_pos z))
 
-  low_part : l / 2 ^ (k + 3) < 2 ^ (61 - k)
-  low_part = (div-lt_iff_lt-mul (pow_pos (k + 3))).1 (rw word_split at fits)
+  moved_up : x * 2 ^ count_leading_zeros 128 x % 2 ^ 128 ≡ x * 2 ^ count_leading_zeros 128 x
+  moved_up = let (j, e, at_least, less) = leading_top 128 x some fits in mod-eq_of_lt (none_out j e less)
 
-  high_part : 2 ^ k * 2 ^ (61 - k) ≡ 2 ^ 61
-  high_part = let e : k + (61 - k) ≡ 61 = omega (arith, highest_small h l k highest less) in sym (pow-add 2 k (61 - k)) ∙ ap (λ (x : ℕ). 2 ^ x) e
+  pub cut_enough : 2 ^ 16 ≤ x * 2 ^ count_leading_zeros 128 x % 2 ^ 128 / 2 ^ 66
+  cut_enough = let (j, e, at_least, less) = leading_top 128 x some fits in rw moved_up (omega (arith, first_set j e at_least))
 
-  pub top_less : h * 2 ^ (61 - k) + l / 2 ^ (k + 3) < 2 ^ 62
-  top_less = omega (arith, low_part, high_part, mul-le-mul_right (2 ^ (61 - k)) highest.less)
-
-  pub top_fits : Fits w64 (h * 2 ^ (61 - k) + l / 2 ^ (k + 3))
-  top_fits = record { fits = omega (arith, top_less) }
-
-  pub top_enough : 2 ^ 61 ≤ h * 2 ^ (61 - k) + l / 2 ^ (k + 3)
-  top_enough = omega (arith, high_part, mul-le-mul_right (2 ^ (61 - k)) highest.at_least)
-
-  pub narrow_two : Within (over_power (pos (h * 2 ^ 64 + l)) 56) (h * 2 ^ (61 - k) + l / 2 ^ (k + 3)) (k + 3) 56 (not (eqb (l % 2 ^ (k + 3)) 0))
-  narrow_two =
-      cut_within (h * 2 ^ 64 + l) 56 0 (h * 2 ^ (61 - k) + l / 2 ^ (k + 3)) (k + 3) (l % 2 ^ (k + 3))
-      (omega (arith, ap (λ (x : ℕ). h * x) word_split, div-add-mod' l (2 ^ (k + 3)))) (mod-lt l (pow_pos (k + 3)))
-      (not (eqb (l % 2 ^ (k + 3)) 0)) (nothing_lost (l % 2 ^ (k + 3))) (something_lost (l % 2 ^ (k + 3)))
+  pub cut_known : Within (over_power (pos x) 56) (x * 2 ^ count_leading_zeros 128 x % 2 ^ 128 / 2 ^ 66) 66 (56 + count_leading_zeros 128 x)
+      (not (eqb (x * 2 ^ count_leading_zeros 128 x % 2 ^ 128 % 2 ^ 66) 0))
+  cut_known =
+      let y = x * 2 ^ count_leading_zeros 128 x in
+      rw moved_up
+      (cut_within x 56 (count_leading_zeros 128 x) (y / 2 ^ 66) 66 (y % 2 ^ 66) (sym (div-add-mod' y (2 ^ 66))) (mod-lt y (pow_pos 66))
+      (not (eqb (y % 2 ^ 66) 0)) (nothing_lost (y % 2 ^ 66)) (something_lost (y % 2 ^ 66)))

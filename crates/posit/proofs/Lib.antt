@@ -45,7 +45,6 @@ pub mod Multiplied
 pub mod Divided
 pub mod OddForm
 pub mod OneForm
-pub mod TwoWords
 pub mod KnownWide
 pub mod Summed
 pub mod Added

@@ -2,9 +2,10 @@
 use Rattle.std.proofs.Common.{◌≡◌, ℕ, ◌+◌, ◌-◌, ◌*◌, ◌^◌, ◌<◌, ◌≤◌, Bool, true, false, not, pos, ◌+ℤ◌, ◌-ℤ◌, nat_abs, sym, refl, mul-pos, arith, pow_pos, w32, to_z, of_z}
 use mathlib.Core.Bool.{beq}
 use Rattle.std.specs.Prelude.{Option, Some, None}
-use Rattle.exact.specs.Fraction.{Fraction, ◌≈◌, over_power, negᶠ, ◌+ᶠ◌, ◌-ᶠ◌}
+use Rattle.exact.specs.Fraction.{Fraction, ◌≈◌, whole, over_power, negᶠ, ◌+ᶠ◌, ◌-ᶠ◌}
 use Rattle.exact.proofs.Linear.{spread, parts}
 use Rattle.exact.proofs.Order.{≈_refl, ≈_sym, ≈_trans, ◌⨾◌}
+use Rattle.exact.proofs.Sign.{≈0}
 use Rattle.exact.proofs.Sum.{negᶠ_negᶠ, negᶠ_cong, negᶠ_+ᶠ, negᶠ_difference, +ᶠ_comm, +ᶠ_cong, -ᶠ_is}
 use Rattle.exact.proofs.OverPower.{over_power_+ᶠ, over_power_difference}
 use Rattle.exact.proofs.Scaled.{scaled_negᶠ}
@@ -64,6 +65,13 @@ module _ (M N D : ℕ) where
       let d : pos M -ℤ pos N ≡ pos D = simp spread (simp parts (omega arith)) in
       rw d at (over_power_difference unit_bits (pos M) (pos N))
 
+sign_zero : (b : Bool) → with_signᶠ b (over_power (pos 0) unit_bits) ≈ whole (pos 0)
+sign_zero true = ≈0.1 refl
+sign_zero false = ≈0.1 refl
+
+pub none_left : (b : Bool) (M N : ℕ) → M ≡ N → with_signᶠ b (over_power (pos M) unit_bits -ᶠ over_power (pos N) unit_bits) ≈ whole (pos 0)
+none_left b M N e = ≈_trans (sign_cong b (units_difference M N 0 (omega arith) (omega arith))) (sign_zero b)
+
 module _ (b : Bool) (M N D : ℕ) (m : Magnitude) where
   pub first_smaller : M ≤ N → D ≡ N - M → Knows (over_power (pos D) unit_bits) m
       → Knows (with_signᶠ (not b) (with_signᶠ b (over_power (pos M) unit_bits -ᶠ over_power (pos N) unit_bits))) m
@@ -97,7 +105,7 @@ module _ (x : Finite) {M : ℕ} (is : Units x M) where
   pub size_less : M < 2 ^ 120
   size_less = omega (arith, size_most)
 
-  size_some : 0 < M
+  pub size_some : 0 < M
   size_some = rw units (mul-pos x.small.some (pow_pos (lifted x.scale)))
 
 -- ---- the sum of two finite numbers
@@ -106,9 +114,6 @@ sum_respects None e k = ≈_trans (≈_sym e) k
 sum_respects (Some x) e k = within_respects (sign_cong x.negative e) k
 
 module _ (x y : Finite) {M N : ℕ} (left : Units x M) (right : Units y N) where
-  pub sum_size : {D : ℕ} → D ≡ M + N → (0 < D) × (D < 2 ^ 120)
-  sum_size e = (omega (arith, size_some x left), omega (arith, size_most x left, size_most y right))
-
   pub same_signs : (D : ℕ) (m : Magnitude) → beq x.negative y.negative ≡ true → D ≡ M + N → Knows (over_power (pos D) unit_bits) m
       → Knows (with_signᶠ x.negative (meant x +ᶠ meant y)) m
   same_signs D m same e k =

@@ -1,9 +1,8 @@
--- What the inner functions of arithmetic say: a magnitude above 0 known to a word, and numbers of two words.
-use Rattle.std.specs.Prelude.{◌≡◌, ℕ, ◌+◌, ◌*◌, ◌^◌, Bool, true, false, pos, Option, Some, None}
+-- What the inner functions of arithmetic say: a magnitude above 0 known to a word, and sums of such.
+use Rattle.std.specs.Prelude.{◌≡◌, ℕ, ◌+◌, Bool, true, false, pos, Option, Some, None}
 use Rattle.exact.specs.Fraction.{Fraction, ◌≤ᶠ◌, ◌<ᶠ◌, ◌≈◌, whole, over_power, negᶠ, ◌+ᶠ◌, ◌-ᶠ◌, ◌*ᶠ◌, ◌/ᶠ◌}
 use Rattle.posit.specs.declared.inner.finite.Finite.{Finite}
 use Rattle.posit.specs.declared.inner.magnitude.Magnitude.{Magnitude}
-use Rattle.posit.specs.declared.inner.wide.Wide.{Wide}
 use Rattle.posit.specs.declared.inner.signed.Signed.{Signed}
 use Rattle.posit.specs.Rounding.{Rounds}
 use Rattle.posit.specs.Decoding.{finite_value}
@@ -44,14 +43,11 @@ abbrev pub QuotientOf : Finite → Finite → Magnitude → Type 0
 QuotientOf x y r = Knows (meant_size x /ᶠ meant_size y) r
 
 -- ---- sums
-abbrev pub number : Wide → ℕ
-number x = x.high * 2 ^ 64 + x.low
+-- a whole number of units of 2^-56
+abbrev pub units56 : ℕ → Fraction
+units56 x = over_power (pos x) unit_bits
 
--- a number of two words in units of 2^-56
-abbrev pub units56 : Wide → Fraction
-units56 x = over_power (pos (number x)) unit_bits
-
-abbrev pub Narrows : Wide → Magnitude → Type 0
+abbrev pub Narrows : ℕ → Magnitude → Type 0
 Narrows x r = Knows (units56 x) r
 
 -- r is z: nothing, or a sign and a magnitude
@@ -59,7 +55,7 @@ abbrev pub IsSum : Fraction → Option (Signed Magnitude) → Type 0
 IsSum z None = z ≈ whole (pos 0)
 IsSum z (Some r) = Knows (with_signᶠ r.negative z) r.size
 
-abbrev pub DifferenceOf : Bool → Wide → Wide → Option (Signed Magnitude) → Type 0
+abbrev pub DifferenceOf : Bool → ℕ → ℕ → Option (Signed Magnitude) → Type 0
 DifferenceOf negative x y r = IsSum (with_signᶠ negative (units56 x -ᶠ units56 y)) r
 
 abbrev pub SumOf : Finite → Finite → Option (Signed Magnitude) → Type 0

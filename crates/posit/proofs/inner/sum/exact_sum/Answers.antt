@@ -1,7 +1,7 @@
 -- `posit::inner::sum::exact_sum` meets its contract: both numbers are whole multiples of 2^-56, of at most 2^112 units, and are added or subtracted by their signs.
-use Rattle.std.proofs.Common.{arith}
+use Rattle.std.proofs.Common.{arith, refl}
 use Rattle.posit.proofs.SmallScale.{lifted_most, sum_fits, sum_is, cast_is}
-use Rattle.posit.proofs.Summed.{size_less, sum_size, same_signs, other_signs}
+use Rattle.posit.proofs.Summed.{size_less, size_some, same_signs, other_signs}
 use Rattle.posit.proofs.inner.sum.exact_sum.Goals as goal
 
 pub overflow_add-x : goal.overflow_add-x
@@ -22,18 +22,16 @@ overflow_cast-y c = rw (sum_is c.args.y.small) (tt, omega (arith, lifted_most c.
 pub widened-right-requires : goal.widened-right-requires
 widened-right-requires c = rw (cast_is c.args.y.small) (c.args.y.small.few, lifted_most c.args.y.small)
 
-pub wide_sum-requires : goal.wide_sum-requires
-wide_sum-requires c = (size_less c.args.x c.widened-left.ensures, size_less c.args.y c.widened-right.ensures)
+pub overflow_add-left : goal.overflow_add-left
+overflow_add-left c =
+    record { fits = omega (arith, size_less c.args.x c.widened-left.ensures, size_less c.args.y c.widened-right.ensures) }
 
 pub narrowed-requires : goal.narrowed-requires
-narrowed-requires c = sum_size c.args.x c.args.y c.widened-left.ensures c.widened-right.ensures c.wide_sum.ensures
+narrowed-requires c = omega (arith, size_some c.args.x c.widened-left.ensures)
 
 pub returns-then-x-y : goal.returns-then-x-y
 returns-then-x-y c =
-    same_signs c.args.x c.args.y c.widened-left.ensures c.widened-right.ensures _ c.narrowed.result c.if-x-y.true c.wide_sum.ensures c.narrowed.ensures
-
-pub difference-requires : goal.difference-requires
-difference-requires c = (size_less c.args.x c.widened-left.ensures, size_less c.args.y c.widened-right.ensures)
+    same_signs c.args.x c.args.y c.widened-left.ensures c.widened-right.ensures _ c.narrowed.result c.if-x-y.true refl c.narrowed.ensures
 
 pub returns : goal.returns
 returns c = other_signs c.args.x c.args.y c.widened-left.ensures c.widened-right.ensures _ c.if-x-y.false c.difference.ensures

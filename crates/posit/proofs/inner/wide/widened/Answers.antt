@@ -1,16 +1,7 @@
--- `posit::inner::wide::widened` meets its contract: a number of 14 bits stays within a word below 2^32 and from 2^64 on, and between them it is cut at the end of the low word.
-use Rattle.std.proofs.Common.{arith}
-use Rattle.posit.proofs.TwoWords.{moved_fits, moved, cut_fits, cut_number}
+-- `posit::inner::wide::widened` meets its contract: a number of 14 bits moved up by 112 stays within 128 bits.
+use Rattle.std.proofs.Common.{◌+◌, arith, lt_of_lt_of_le, mod-eq_of_lt, pow_mono, shl_lt}
 use Rattle.posit.proofs.inner.wide.widened.Goals as goal
 
-pub overflow_mul-result-then-e-lt64 : goal.overflow_mul-result-then-e-lt64
-overflow_mul-result-then-e-lt64 c = rw (c.power-cut.ensures, c.power-then-e-lt64.ensures) (cut_fits _ _ (omega arith))
-
-pub returns-then-e-lt64 : goal.returns-then-e-lt64
-returns-then-e-lt64 c = rw (c.power-cut.ensures, c.power-then-e-lt64.ensures) (cut_number _ _ (omega arith))
-
-pub overflow_mul-result-2 : goal.overflow_mul-result-2
-overflow_mul-result-2 c = rw c.power-2.ensures (moved_fits _ _ c.requires.0 (omega arith))
-
 pub returns : goal.returns
-returns c = rw c.power-2.ensures (moved _ _ c.if-e-lt64.false)
+returns c =
+    rw c.from.ensures (mod-eq_of_lt (lt_of_lt_of_le (shl_lt 14 c.args.e c.requires.0) (pow_mono {i = 14 + c.args.e} {j = 128} (omega arith))))
