@@ -1,13 +1,14 @@
--- Decimal digits: the fewest digits that hold a number are its decimal text, and a smaller number has no more of them.
-use mathlib.Core.Path.{◌≡◌, refl, sym, ap, subst, ◌∙◌}
+-- Decimal digits: the library writes those of the definition, and a smaller number has no more of them.
+use mathlib.Core.Path.{◌≡◌, refl, sym, ap, ◌∙◌}
 use mathlib.Core.List.{List, [], ◌∷◌, ◌++◌}
-use Prim.Native.Nat.{ℕ, zero, suc, ◌-◌, ◌*◌, ◌/◌, ◌%◌, ◌^◌, ◌≤◌, ◌<◌}
-use native.Mathlib.Nat.{pow-suc, one-le-pow}
+use Prim.Native.Nat.{ℕ, zero, suc, ◌+◌, ◌/◌, ◌%◌, ◌^◌, ◌≤◌, ◌<◌}
+use native.Mathlib.Nat.{pow-suc}
 use native.Mathlib.Omega.{arith}
 use native.Mathlib.Decide.{dec_lt}
 use lib.ListN.{length, length-append}
 use borrow.Author.Tests.{lt-ltb, le-ltb}
-use Rattle.io.specs.Digits.{hex_digit_ascii, last_digits, IsDigitCount}
+use Rattle.std.specs.Fmt as std
+use Rattle.std.proofs.lemmas.Fmt.{decimal_by_steps}
 use Rattle.text.specs.Text.{digit, decimal_within, decimal}
 
 -- ---- one more digit where the number is 10 or more
@@ -20,48 +21,28 @@ more_digits : (bound x : ℕ) → 10 ≤ x → decimal_within (suc bound) x ≡ 
 unfolding decimal_within
 more_digits bound x h = simp (le-ltb x 10 h)
 
-same_glyph : (d : ℕ) → d < 10 → hex_digit_ascii d ≡ digit d
+glyph : (d : ℕ) → d < 10 → digit d ≡ 48 + d
 unfolding digit
-same_glyph d h = simp (lt-ltb d 10 h)
+glyph d h = simp (lt-ltb d 10 h)
 
--- ---- the fewest digits
-tenfold : (j : ℕ) → 10 ^ suc j ≡ 10 ^ j * 10
-tenfold j = pow-suc 10 j
+-- ---- the library's text of a number
+pub library_digits : (x : ℕ) → x < 2 ^ 64 → std.decimal x ≡ decimal x
+unfolding decimal
+library_digits x h = decimal_by_steps (λ n ds. (bound : ℕ) → n ≤ bound → ds ≡ decimal_within bound n) one more x h x (omega arith)
+  where
+    one : (n : ℕ) → n < 10 → (bound : ℕ) → n ≤ bound → (48 + n) ∷ [] ≡ decimal_within bound n
+    one n l bound b = ap (λ (d : ℕ). d ∷ []) (sym (glyph n l)) ∙ sym (low_digit bound n l)
+
+    more : (n : ℕ) (ds : List ℕ) → 10 ≤ n → ((bound : ℕ) → n / 10 ≤ bound → ds ≡ decimal_within bound (n / 10)) → (bound : ℕ) → n ≤ bound
+        → ds ++ ((48 + n % 10) ∷ []) ≡ decimal_within bound n
+    more n ds big before zero b = absurd (omega arith)
+    more n ds big before (suc bound) b =
+        ap (λ (l : List ℕ). l ++ (48 + n % 10) ∷ []) (before bound (omega arith))
+        ∙ ap (λ (d : ℕ). decimal_within bound (n / 10) ++ d ∷ []) (sym (glyph (n % 10) (omega arith)))
+        ∙ sym (more_digits bound n big)
 
 tenth_below : (k x : ℕ) → x < 10 ^ suc k → x / 10 < 10 ^ k
-tenth_below k x h = omega (arith, tenfold k)
-
-at_least : (j x : ℕ) → IsDigitCount 10 1 x (suc (suc j)) → 10 ^ suc j ≤ x
-at_least j x f =
-    let one_less : suc (suc j) - 1 ≡ suc j = omega arith in
-    subst (λ (e : ℕ). 10 ^ e ≤ x) one_less (f.2 (omega arith))
-
-ten_or_more : (j x : ℕ) → IsDigitCount 10 1 x (suc (suc j)) → 10 ≤ x
-ten_or_more j x f = omega (arith, at_least j x f, tenfold j, one-le-pow j 10 (omega arith))
-
--- the digits before the last are the fewest of the tenth part
-fewest_before : (j x : ℕ) → IsDigitCount 10 1 x (suc (suc j)) → IsDigitCount 10 1 (x / 10) (suc j)
-fewest_before j x f =
-    let one_less : suc j - 1 ≡ j = omega arith in
-    let high : 10 ^ j ≤ x / 10 = omega (arith, at_least j x f, tenfold j) in
-    (omega arith, tenth_below (suc j) x f.1, λ h. rw one_less high)
-
-spelled : (k bound x : ℕ) → x ≤ bound → IsDigitCount 10 1 x (suc k) → last_digits 10 (suc k) x ≡ decimal_within bound x
-spelled zero bound x h f =
-    let small : x < 10 = f.1 in
-    let same : x % 10 ≡ x = omega arith in
-    ap (λ (d : ℕ). hex_digit_ascii d ∷ []) same ∙ ap (λ (d : ℕ). d ∷ []) (same_glyph x small) ∙ sym (low_digit bound x small)
-spelled (suc j) zero x h f = let big = ten_or_more j x f in absurd (omega arith)
-spelled (suc j) (suc bound) x h f =
-    let big = ten_or_more j x f in
-    ap (λ (ds : List ℕ). ds ++ hex_digit_ascii (x % 10) ∷ []) (spelled j bound (x / 10) (omega arith) (fewest_before j x f))
-    ∙ ap (λ (d : ℕ). decimal_within bound (x / 10) ++ d ∷ []) (same_glyph (x % 10) (omega arith))
-    ∙ sym (more_digits bound x big)
-
-pub fewest_digits : (k x : ℕ) → IsDigitCount 10 1 x k → last_digits 10 k x ≡ decimal x
-unfolding decimal
-fewest_digits zero x f = absurd (omega (arith, f.0))
-fewest_digits (suc k) x f = spelled k x x (omega arith) f
+tenth_below k x h = omega (arith, pow-suc 10 k)
 
 -- ---- how many there are
 within_length : (bound k x : ℕ) → x < 10 ^ suc k → length (decimal_within bound x) ≤ suc k

@@ -1,9 +1,8 @@
 -- The text of a file by its verdict: the refusal's line, or the lines of at most 96 rows.
 use mathlib.Core.Path.{◌≡◌, refl, sym, ap, ◌∙◌}
 use mathlib.Core.Logic.{◌≢◌}
-use mathlib.Core.List.{List, ◌++◌}
+use mathlib.Core.List.{List}
 use Prim.Native.Nat.{ℕ, zero, suc, ◌+◌, ◌≤◌}
-use native.Mathlib.Nat.{zero-add}
 use native.Mathlib.Omega.{arith}
 use lib.ListN.{length, take, drop, length-append}
 use lib.Seq.{take_at}
@@ -16,15 +15,9 @@ use Rattle.call.proofs.Answered.{accepts}
 use Rattle.file.proofs.FileVerdict.{file_done_exactly}
 use Rattle.sheet.proofs.Rows.{length_rows, length_steps}
 use Rattle.text.specs.FileText.{most_rows, text_of_file, Leaves}
-use Rattle.text.specs.Put.{Put}
 use Rattle.text.specs.Text.{text_of, refusal_line, row_lines}
 
 -- ---- a text at the front of the lent bytes
-pub leaves_front : {text before after : List ℕ} {count : ℕ} → Put 0 text before after count → Leaves text before after count
-leaves_front {text} {before} p =
-    let count = p.next ∙ zero-add (length text) in
-    record { counted = count; later = p.later ∙ ap (λ (k : ℕ). text ++ drop k before) (sym p.next) }
-
 module _ {text before after : List ℕ} {count : ℕ} (l : Leaves text before after count) where
   pub text_in_front : take count after ≡ text
   text_in_front = ap (take count) l.later ∙ take_at text (drop count before) count (sym l.counted)

@@ -1,5 +1,5 @@
-pub mod Puts
 pub mod Decimals
+pub mod Glyphs
 pub mod RowLines
 pub mod FileTexts
 pub mod ExampleText

@@ -1,7 +1,7 @@
 -- The lines of rows: one row more adds its line, and a line of a row below 100 has at most 21 bytes.
 use mathlib.Core.Path.{◌≡◌, sym, ap, ◌∙◌}
 use mathlib.Core.List.{List, [], ◌∷◌, ◌++◌, append_assoc, append-nil}
-use Prim.Native.Nat.{ℕ, suc, ◌+◌, ◌≤◌, ◌<◌}
+use Prim.Native.Nat.{ℕ, suc, ◌+◌, ◌*◌, ◌≤◌, ◌<◌}
 use native.Mathlib.Nat.{zero-add}
 use native.Mathlib.Numerals.{add-one}
 use native.Mathlib.Omega.{arith}
@@ -32,3 +32,13 @@ unfolding row_line
 line_length n row w h =
     omega
     (arith, row_digits row h, length-append (decimal row) (range_fields n w), length-append (decimal row ++ range_fields n w) (line_feed ∷ []))
+
+pub lines_length : (n row : ℕ) (rows : List ℕ) → row + length rows ≤ 100 → length (row_lines n row rows) ≤ 21 * length rows
+unfolding row_lines
+lines_length n row [] h = omega arith
+lines_length n row (w ∷ rows) h =
+    omega (arith, length-append (row_line n row w) (row_lines n (suc row) rows), line_length n row w (omega arith), lines_length n (suc row) rows (omega arith))
+
+-- the four parts of a line, put on a page one behind the other
+pub four_behind : (page a b c d : List ℕ) → page ++ a ++ b ++ c ++ d ≡ page ++ (a ++ b ++ c ++ d)
+four_behind page a b c d = simp append_assoc

@@ -1,4 +1,3 @@
 pub mod Text
 pub mod FileText
 pub mod Example
-pub mod Put

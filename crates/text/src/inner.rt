@@ -1,4 +1,4 @@
-// Bytes, fields and lines put into a lent buffer one behind the other.
+// Fields and lines put on a page one behind the other.
 pub mod fields;
 pub mod lines;
-pub mod put;
+pub mod page;

@@ -1,70 +1,59 @@
 // The fields of a line: a number in decimal digits, and an end of a range as its posit and its mark.
-ghost use Rattle.std.specs.Prelude.{◌≡◌, ◌+◌, ◌≤◌, ◌<◌, length};
-ghost use Rattle.text.specs.Put.{Put};
+ghost use Rattle.std.specs.Prelude.{◌≡◌, ◌+◌, ◌≤◌, ◌<◌, ◌++◌, length};
 ghost use Rattle.text.specs.Text.{digit, mark_byte, decimal, field, end_fields, range_fields};
 
-use super::put::put;
+use super::page::Page;
+use itoa::Buffer;
 use posit::inner::format::Format;
 use posit::inner::power::power;
-
-const DECIMAL_DIGITS: u64 = 10;
 
 const HEX_DIGITS: u64 = 16;
 
 // A hexadecimal digit.
-pub fn hex_digit(d: u64) -> u8
+pub fn hex_digit(d: u32) -> char
     requires { d < 16 }
     ensures { result ≡ digit d }
 {
-    if d < DECIMAL_DIGITS {
-        b'0' + d as u8
-    } else {
-        b'a' + (d - DECIMAL_DIGITS) as u8
-    }
+    char::from_digit(d, 16).unwrap()
 }
 
 // Closed or open.
-pub fn mark_byte(mark: u64) -> u8
+pub fn mark_letter(mark: u64) -> char
     ensures { result ≡ mark_byte mark }
 {
-    if mark == 0 { b'c' } else { b'o' }
-}
-
-// The posit of a tile and its mark, a space before each.
-pub fn end_fields(tile: u64) -> [u8; 7]
-    ensures { result ≡ end_fields tile }
-{
-    let posit = tile / 2;
-    [
-        b' ',
-        hex_digit(posit / 4096 % HEX_DIGITS),
-        hex_digit(posit / 256 % HEX_DIGITS),
-        hex_digit(posit / 16 % HEX_DIGITS),
-        hex_digit(posit % HEX_DIGITS),
-        b' ',
-        mark_byte(tile % 2),
-    ]
+    if mark == 0 { 'c' } else { 'o' }
 }
 
 // A number, a space before it.
-pub fn put_number(number: u32, at: usize, buffer: &mut [u8]) -> usize
-    requires { at + length (field (decimal number)) ≤ length buffer.old }
-    ensures { Put at (field (decimal number)) buffer.old buffer.new result }
+pub fn push_number(number: u32, page: &mut Page)
+    requires { length page.old.bytes + length (field (decimal number)) ≤ 2048 }
+    ensures { page.new.bytes ≡ page.old.bytes ++ field (decimal number) }
 {
-    let mut digits = [0u8; 20];
-    let count = io::decimal(number as u64, &mut digits);
-    let behind = put(b" ", at, buffer);
-    put(&digits[..count], behind, buffer)
+    let mut digits = Buffer::new();
+    page.push(' ');
+    page.push_str(digits.format(number));
+}
+
+// The posit of a tile and its mark, a space before each.
+pub fn push_end(tile: u64, page: &mut Page)
+    requires { length page.old.bytes + 7 ≤ 2048 }
+    ensures { page.new.bytes ≡ page.old.bytes ++ end_fields tile }
+{
+    let posit = tile / 2;
+    page.push(' ');
+    for worth in [4096, 256, 16, 1] {
+        page.push(hex_digit((posit / worth % HEX_DIGITS) as u32));
+    }
+    page.push(' ');
+    page.push(mark_letter(tile % 2));
 }
 
 // Both ends of a range, a space before each field.
-pub fn put_ends(f: Format, word: u64, at: usize, buffer: &mut [u8]) -> usize
-    requires { at + 14 ≤ length buffer.old }
-    ensures { Put at (range_fields f.n word) buffer.old buffer.new result }
+pub fn push_ends(f: Format, word: u64, page: &mut Page)
+    requires { length page.old.bytes + 14 ≤ 2048 }
+    ensures { page.new.bytes ≡ page.old.bytes ++ range_fields f.n word }
 {
     let tiles = power(f.n + 1);
-    let start = end_fields(word / tiles);
-    let end = end_fields(word % tiles);
-    let started = put(&start, at, buffer);
-    put(&end, started, buffer)
+    push_end(word / tiles, page);
+    push_end(word % tiles, page);
 }

@@ -1,44 +1,39 @@
 // The lines of the text: one for each row, or the one of a refusal.
-ghost use Rattle.std.specs.Prelude.{◌+◌, ◌*◌, ◌≤◌, ◌<◌, length};
-ghost use Rattle.text.specs.Put.{Put};
+ghost use Rattle.std.specs.Prelude.{◌≡◌, ◌+◌, ◌*◌, ◌≤◌, ◌<◌, ◌++◌, length};
 ghost use Rattle.text.specs.Text.{row_line, row_lines, refusal_line};
 
-use super::fields::{put_ends, put_number};
-use super::put::put;
+use super::fields::{push_ends, push_number};
+use super::page::Page;
 use posit::inner::format::Format;
 
 // The line of one row.
-pub fn put_row(f: Format, row: u32, word: u64, at: usize, buffer: &mut [u8]) -> usize
-    requires { (row < 100) × (at + 21 ≤ length buffer.old) }
-    ensures { Put at (row_line f.n row word) buffer.old buffer.new result }
+pub fn push_row(f: Format, row: u32, word: u64, page: &mut Page)
+    requires { (row < 100) × (length page.old.bytes + 21 ≤ 2048) }
+    ensures { page.new.bytes ≡ page.old.bytes ++ row_line f.n row word }
 {
-    let named = put(b"ROW", at, buffer);
-    let numbered = put_number(row, named, buffer);
-    let ended = put_ends(f, word, numbered, buffer);
-    put(b"\n", ended, buffer)
+    page.push_str("ROW");
+    push_number(row, page);
+    push_ends(f, word, page);
+    page.push('\n');
 }
 
-// The lines of all rows, from the front of the buffer.
-pub fn put_rows(f: Format, rows: &[u64], buffer: &mut [u8]) -> usize
-    requires { (length rows.now ≤ 96) × (21 * length rows.now ≤ length buffer.old) }
-    ensures { Put 0 (row_lines f.n 0 rows.now) buffer.old buffer.new result }
+// The lines of all rows.
+pub fn push_rows(f: Format, rows: &[u64], page: &mut Page)
+    requires { (length rows.now ≤ 96) × (length page.old.bytes + 21 * length rows.now ≤ 2048) }
+    ensures { page.new.bytes ≡ page.old.bytes ++ row_lines f.n 0 rows.now }
 {
-    let mut at: usize = 0;
-    let mut i: usize = 0;
-    while i < rows.len() {
-        at = put_row(f, i as u32, rows[i], at, buffer);
-        i += 1;
+    for (row, word) in rows.iter().enumerate() {
+        push_row(f, row as u32, *word, page);
     }
-    at
 }
 
-// The line of a refusal, from the front of the buffer.
-pub fn put_refusal(number: u32, place: u32, buffer: &mut [u8]) -> usize
-    requires { 25 ≤ length buffer.old }
-    ensures { Put 0 (refusal_line number place) buffer.old buffer.new result }
+// The line of a refusal.
+pub fn push_refusal(number: u32, place: u32, page: &mut Page)
+    requires { length page.old.bytes + 25 ≤ 2048 }
+    ensures { page.new.bytes ≡ page.old.bytes ++ refusal_line number place }
 {
-    let named = put(b"NO", 0, buffer);
-    let numbered = put_number(number, named, buffer);
-    let placed = put_number(place, numbered, buffer);
-    put(b"\n", placed, buffer)
+    page.push_str("NO");
+    push_number(number, page);
+    push_number(place, page);
+    page.push('\n');
 }

@@ -1,12 +1,10 @@
--- `text::inner::fields::hex_digit` meets its contract: below 10 the digit counts from `0`, else from `a`.
-use borrow.Author.Tests.{lt-ltb, le-ltb}
-use Rattle.text.specs.Text.{digit}
+-- `text::inner::fields::hex_digit` meets its contract: the library's digit is that of the definition.
+use Rattle.std.proofs.Common.{Option, ℕ, ◌<◌, ◌∙◌, subst}
+use Rattle.std.specs.Char.{digit_char}
+use Rattle.std.specs.Option.{SomeIff}
+use Rattle.text.proofs.Glyphs.{library_digit}
 use Rattle.text.proofs.inner.fields.hex_digit.Goals as goal
 
-pub returns-then-d-lt-DECIMAL_DIGITS : goal.returns-then-d-lt-DECIMAL_DIGITS
-unfolding digit
-returns-then-d-lt-DECIMAL_DIGITS c = simp (lt-ltb _ _ c.if-d-lt-DECIMAL_DIGITS.true)
-
-pub returns-else-d-lt-DECIMAL_DIGITS : goal.returns-else-d-lt-DECIMAL_DIGITS
-unfolding digit
-returns-else-d-lt-DECIMAL_DIGITS c = simp (le-ltb _ _ c.if-d-lt-DECIMAL_DIGITS.false)
+pub returns : goal.returns
+returns c =
+    (subst (λ (o : Option ℕ). SomeIff o (c.args.d < 16) (digit_char c.args.d)) c.unwrap.ensures c.from_digit.ensures.value).1 ∙ library_digit c.args.d
