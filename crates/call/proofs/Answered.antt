@@ -1,4 +1,4 @@
--- An answer by its verdict: refused, or done; and the numbers that either is.
+-- An answer by its verdict: refused, or done.
 use Rattle.std.proofs.Common.{◌≡◌, ◌≢◌, ℕ, ◌-◌, [], ◌∷◌, get_or, refl, sym, ap, ◌∙◌, suc-ne-zero}
 use Rattle.std.specs.Prelude.{Result, Ok, Err, IsErr, IsErrAnd}
 use Rattle.std.proofs.lemmas.Result.{err_from_is_err_and}
@@ -6,7 +6,7 @@ use Rattle.call.specs.declared.reason.Reason.{Reason}
 use Rattle.call.specs.declared.reason.Reason.TheVariants.{OutsideLimits, NoOperation, TooLarge, HoldsInfinity, ZeroDivisor, BadReading, WrongLength, NotEarlier, NoRoom, BadFile}
 use Rattle.call.specs.declared.refusal.Refusal.{Refusal}
 use Rattle.call.specs.Number.{number_of}
-use Rattle.call.specs.Verdict.{Verdict, Answers, Numbers, done, refused}
+use Rattle.call.specs.Verdict.{Verdict, Answers, done, refused}
 
 -- no reason has the number of a call that is done
 pub reason_is_some : (e : Reason) → number_of e ≢ 0
@@ -26,24 +26,6 @@ refuses e s z = reason_is_some e.reason (sym (ap (λ (v : Verdict). v.number) s)
 
 pub accepts : {v : Verdict} → v ≡ done → v.number ≡ 0
 accepts s = ap (λ (v : Verdict). v.number) s
-
-pub numbers_refused : {v : Verdict} (e : Refusal) {Right Refused : Type 0} → v ≡ refused e → Refused → Numbers v (number_of e.reason) e.place Right Refused
-numbers_refused e s f =
-    record {
-      number_is = sym (ap (λ (v : Verdict). v.number) s);
-      place_is = sym (ap (λ (v : Verdict). v.place) s);
-      right = λ z. absurd (refuses e s z);
-      refused = λ _. f;
-    }
-
-pub numbers_done : {v : Verdict} {Right Refused : Type 0} → v ≡ done → Right → Numbers v 0 0 Right Refused
-numbers_done s r =
-    record {
-      number_is = sym (ap (λ (v : Verdict). v.number) s);
-      place_is = sym (ap (λ (v : Verdict). v.place) s);
-      right = λ _. r;
-      refused = λ d. absurd (d (accepts s));
-    }
 
 -- ---- a call has one answer
 abbrev reason_of : ℕ → Reason

@@ -1,21 +1,18 @@
 -- A list copied to the front of another, one element a turn.
 use mathlib.Core.Path.{◌≡◌, sym, ap, ◌∙◌}
 use mathlib.Core.List.{List, ◌++◌}
-use Prim.Native.Nat.{ℕ, ◌+◌, ◌≤◌, ◌<◌, zero-le}
+use Prim.Native.Nat.{ℕ, ◌+◌, ◌<◌}
 use native.Mathlib.Nat.{zero-add}
 use native.Mathlib.Numerals.{add-one}
 use native.Mathlib.Omega.{arith}
 use lib.ListN.{length, get_or, take, drop, set}
-use lib.Seq.{take_all, paste, paste-zero, paste-suc, length-paste, take-paste}
+use lib.Seq.{take_all, paste, paste-suc}
 
 -- the first i elements of s have been copied over those of d
 pub record Copied (d s : List ℕ) (i : ℕ) (now : List ℕ) : Type 0 where
   pub is_copy : now ≡ paste d 0 s i
 
 module _ (d s : List ℕ) where
-  pub copy_none : Copied d s 0 d
-  copy_none = record { is_copy = paste-zero d 0 s }
-
   pub copy_one : {i v : ℕ} {now : List ℕ} → Copied d s i now → i < length d → i < length s → v ≡ get_or s i 0 → Copied d s (i + 1) (set now i v)
   copy_one {i} {v} {now} e hd hs ev =
       record {
@@ -27,14 +24,8 @@ module _ (d s : List ℕ) where
             ∙ ap (λ (k : ℕ). paste d 0 s k) (sym (add-one i));
       }
 
-  pub copy_length : {i : ℕ} {now : List ℕ} → Copied d s i now → i ≤ length d → i ≤ length s → length now ≡ length d
-  copy_length {i} e hd hs = ap length e.is_copy ∙ length-paste d 0 s i (rw zero-add hd) hs
-
   pub copy_all : {i : ℕ} {now : List ℕ} → Copied d s i now → now ≡ take i s ++ drop i d
   copy_all {i} e = e.is_copy ∙ ap (λ (k : ℕ). take i s ++ drop k d) (zero-add i)
-
-  pub copy_front : {i : ℕ} {now : List ℕ} → Copied d s i now → i ≤ length s → take i now ≡ take i s
-  copy_front {i} e hs = ap (take i) e.is_copy ∙ ap (λ (k : ℕ). take k (paste d 0 s i)) (sym (zero-add i)) ∙ take-paste d 0 s i zero-le hs
 
   pub copy_whole : {i k : ℕ} {now : List ℕ} → Copied d s i now → i ≡ k → length s ≡ k → now ≡ s ++ drop k d
   copy_whole {i} {k} {now} c e l =

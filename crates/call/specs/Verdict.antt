@@ -1,5 +1,5 @@
 -- Refusals: the number that a call comes back with and its place. The first test that hits gives both; where none hits, the call is done.
-use Rattle.std.specs.Prelude.{Bool, true, false, List, [], ◌∷◌, ◌≡◌, ◌≢◌, ℕ, Result, MatchResult}
+use Rattle.std.specs.Prelude.{Bool, true, false, List, [], ◌∷◌, ◌≡◌, ℕ, Result, MatchResult}
 use Rattle.call.specs.declared.refusal.Refusal.{Refusal}
 use Rattle.call.specs.Number.{number_of}
 
@@ -31,10 +31,3 @@ Answers v Right r = MatchResult r (λ x. (v ≡ done) × Right x) (λ e. v ≡ r
 -- the same of a call that judges and answers nothing else
 abbrev pub Says : Verdict → Result (Unit {0}) Refusal → Type 0
 Says v = Answers v (λ _. Unit {0})
-
--- the same as numbers: the number and place of the verdict; where it is done the value is right, and refused it is the value for refusals
-pub record Numbers (v : Verdict) (number place : ℕ) (Right Refused : Type 0) : Type 0 where
-  pub number_is : number ≡ v.number
-  pub place_is : place ≡ v.place
-  pub right : v.number ≡ 0 → Right
-  pub refused : v.number ≢ 0 → Refused

@@ -1,4 +1,4 @@
-// What every call shares: the reasons of refusals, their places, the operations, and what is known of lent memory.
+// What every call shares: the reasons of refusals, their places, and the operations; `specs/` says what becomes of lent memory.
 #![tactic(auto)]
 
 pub mod operation;

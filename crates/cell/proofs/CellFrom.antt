@@ -26,7 +26,7 @@ use Rattle.posit.proofs.Mirror.{nar_is_half, power_wider}
 use Rattle.posit.proofs.Wider.{value_wider}
 use Rattle.posit.proofs.Floor.{Floor}
 use Rattle.posit.proofs.Located.{floor_cut}
-use Rattle.posit.proofs.RoundKnown.{pattern_fits}
+use Rattle.posit.proofs.RoundKnown.{by_mark, pattern_fits}
 use Rattle.posit.proofs.Exactly.{next_given, never}
 use Rattle.code.specs.Step.{IsStep}
 use Rattle.word.specs.Numbered.{count, number_of, value_at}
@@ -162,14 +162,6 @@ module _ (n es : ℕ) (wide : 3 ≤ n) {x : Fraction} {L : ℕ} (f : IsFloor (n 
       by false e (inl z) = rw e (from_missed n L z ∙ omega (arith, cell_above n es wide cut (above_missed z (miss e)), pow_pos n))
 
 -- ---- the cell of a known magnitude
-and_false : (b : Bool) → (b && false) ≡ false
-and_false true = refl
-and_false false = refl
-
-and_true : (b : Bool) → (b && true) ≡ b
-and_true true = refl
-and_true false = refl
-
 module _ {n es : ℕ} (f : Format n es) (x : Magnitude) {L : ℕ} {exact : Bool} (l : Locates n es x.g x.s x.a L exact) where
   wide : 3 ≤ n
   wide = f.wide_enough
@@ -191,11 +183,8 @@ module _ {n es : ℕ} (f : Format n es) (x : Magnitude) {L : ℕ} {exact : Bool}
 
   -- something lost is a number that is not met
   pub found_each : (negative : Bool) {p r : ℕ} → p ≡ cell_from n L (exact && not x.lost) → r ≡ cell_with_sign n negative p → CellEach n es negative x r
-  found_each negative {r = r} i j = by x.lost refl
-    where
-      by : (b : Bool) → x.lost ≡ b → CellEach n es negative x r
-      by true e = lost_each negative e (i ∙ ap (cell_from n L) (ap (λ (b : Bool). exact && not b) e ∙ and_false exact)) j
-      by false e = kept_each negative e (i ∙ ap (cell_from n L) (ap (λ (b : Bool). exact && not b) e ∙ and_true exact)) j
+  found_each negative {p} {r} =
+      by_mark exact x.lost (λ (b : Bool). p ≡ cell_from n L b → r ≡ cell_with_sign n negative p → CellEach n es negative x r) (lost_each negative) (kept_each negative)
 
 -- ---- bounds of the machine's numbers
 even_gap : (q k : ℕ) {L all : ℕ} → L ≡ 2 * q → all ≡ 2 * k → L < all → L + 2 ≤ all

@@ -9,7 +9,7 @@ use lib.IntN.{pos}
 use lib.Dec.{eqb}
 use lib.ListN.{length, get_or, drop, drop_of_length-le}
 use lib.Seq.{drop-cons}
-use borrow.Author.Tests.{eq-eqb, ne_eqb, eqb-true}
+use borrow.Author.Tests.{eq-eqb, eqb-true}
 use Rattle.exact.specs.Fraction.{whole}
 use Rattle.call.specs.Operation.{over}
 use Rattle.call.specs.Verdict.{Test}
@@ -37,9 +37,6 @@ module _ (n es place op w : ℕ) {b : Bool} (e : b ≡ is_member n es w (whole (
       both_false : (a b : Bool) → b ≡ false → (a && b) ≡ false
       both_false true b f = f
       both_false false b f = refl
-
-pub not_a_division : (n es place op w : ℕ) → (op ≡ over → ⊥) → (divisor_test_at n es place op w).hit ≡ false
-not_a_division n es place op w d = rw (ne_eqb op over d)
 
 pub divisor_clear : (n es place op w : ℕ) → op ≡ over → (divisor_test_at n es place op w).hit ≡ false → holds_zero n es w ≡ false
 divisor_clear n es place op w d h = sym (ap (λ (b : Bool). b && holds_zero n es w) (eq-eqb op over d)) ∙ h

@@ -21,7 +21,8 @@ use Rattle.tiles.proofs.Faults.{or_below}
 use Rattle.column.specs.Refusal.{holds_zero}
 use Rattle.column.specs.Accepted.{PairFits}
 use Rattle.column.specs.Column.{pairs_tests}
-use Rattle.column.specs.Plains.{subtract, all_plain, takes_plain_way}
+use Rattle.call.specs.Operation.{minus}
+use Rattle.column.specs.Plains.{all_plain, takes_plain_way}
 use Rattle.call.proofs.Tests.{Passing, all_pass, passing_both}
 use Rattle.call.proofs.Facts.{both_parts}
 use Rattle.column.proofs.Pairs.{fits_pair}
@@ -87,7 +88,7 @@ module _ {n es : ℕ} (f : Format n es) (op : ℕ) where
 -- ---- the plain way
 module _ (n op : ℕ) (left right : List ℕ) (p : takes_plain_way n op left right ≡ true) where
   pub way_plain : all_plain n left right ≡ true
-  way_plain = (both_parts (not (eqb op subtract)) (all_plain n left right) p).1
+  way_plain = (both_parts (not (eqb op minus)) (all_plain n left right) p).1
 
-  pub way_other : op ≢ subtract
-  way_other = eqb-false op subtract (not-true (eqb op subtract) (both_parts (not (eqb op subtract)) (all_plain n left right) p).0)
+  pub way_other : op ≢ minus
+  way_other = eqb-false op minus (not-true (eqb op minus) (both_parts (not (eqb op minus)) (all_plain n left right) p).0)

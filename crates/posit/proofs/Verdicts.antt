@@ -56,14 +56,6 @@ module _ (n es p : ℕ) where
   unfolding verdict_of_one
   one_outside e = format_hits n es _ e
 
-  pub one_too_large : is_format n es ≡ true → 2 ^ n ≤ p → verdict_of_one n es p ≡ record { number = 3; place = 0 }
-  unfolding verdict_of_one
-  one_too_large e h = format_passes n es _ e ∙ posit_hits n left p [] h
-
-  pub one_done : is_format n es ≡ true → p < 2 ^ n → verdict_of_one n es p ≡ done
-  unfolding verdict_of_one
-  one_done e h = format_passes n es _ e ∙ posit_passes n left p [] h ∙ none_hits
-
 -- ---- two posits, after the tests before them
 module _ (n p q : ℕ) where
   abbrev operands : List Test
@@ -87,15 +79,6 @@ module _ (n es p q : ℕ) where
   two_inside : is_format n es ≡ true → verdict_of_two n es p q ≡ first_hit (operands n p q)
   unfolding verdict_of_two
   two_inside e = format_passes n es _ e
-
-  pub two_left : is_format n es ≡ true → 2 ^ n ≤ p → verdict_of_two n es p q ≡ record { number = 3; place = 0 }
-  two_left e h = two_inside e ∙ operands_left n p q h
-
-  pub two_right : is_format n es ≡ true → p < 2 ^ n → 2 ^ n ≤ q → verdict_of_two n es p q ≡ record { number = 3; place = 1 }
-  two_right e h k = two_inside e ∙ operands_right n p q h k
-
-  pub two_done : is_format n es ≡ true → p < 2 ^ n → q < 2 ^ n → verdict_of_two n es p q ≡ done
-  two_done e h k = two_inside e ∙ operands_done n p q h k
 
 -- ---- an operation on two posits
 module _ (n es op p q : ℕ) where
@@ -121,13 +104,6 @@ module _ (n es op p q : ℕ) where
   operation_done e l h k = operation_inside e l ∙ operands_done n p q h k
 
 -- ---- an operation of a known number is judged by its two posits
-pub operation_judged : (n es op p q : ℕ) → op ≤ 3 → verdict_of_operation n es op p q ≡ verdict_of_two n es p q
-operation_judged n es op p q l = by (is_format n es) refl
-  where
-    by : (b : Bool) → is_format n es ≡ b → verdict_of_operation n es op p q ≡ verdict_of_two n es p q
-    by true e = operation_inside n es op p q e l ∙ sym (two_inside n es p q e)
-    by false e = operation_outside n es op p q e ∙ sym (two_outside n es p q e)
-
 -- ---- one posit, at a place
 pub posit_large : (n place p : ℕ) → 2 ^ n ≤ p → verdict_of_posit n place p ≡ record { number = 3; place = place }
 posit_large n place p h = posit_hits n place p [] h

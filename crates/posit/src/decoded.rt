@@ -1,4 +1,4 @@
-// A decoded posit: zero, NaR, or a finite number that means sign · fraction · 2^scale.
+// A decoded posit: zero, NaR, or a finite number that means sign · fraction · 2^scale; document 01 names the three cases.
 #[derive(Clone, Copy, Debug, PartialEq, Eq)]
 pub enum Decoded {
     Zero,

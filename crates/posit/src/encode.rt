@@ -11,7 +11,7 @@ use super::inner::power::power32;
 use super::inner::round::{rounded, with_sign};
 use call::refusal::Refusal;
 
-// Zero bits put below a fraction, so that it has as many as `locate` asks for, and 2 to that power.
+// Zero bits put below a fraction, so that it has as many as a `Magnitude` has, and 2 to that power.
 const SPARE_BITS: u64 = 29;
 
 const SPARE: u64 = 0x2000_0000;

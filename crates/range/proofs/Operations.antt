@@ -24,9 +24,9 @@ use Rattle.word.specs.Smallest.{IsAnswer}
 use Rattle.word.specs.Refusal.{verdict_of_operands, verdict_of_range_operation, divisor_test}
 use Rattle.word.specs.Calls.{OperationOf}
 use Rattle.word.specs.Taking.{CellsOfBoth}
-use Rattle.word.specs.Spans.{cells_of, mirrored, Cells, RealCells, word_at}
+use Rattle.word.specs.Spans.{cells_of, mirrored, Cells, word_at}
 use Rattle.word.proofs.Verdicts.{range_operation_outside, operation_by_words, operation_by_number, operands_by_words, operation_format}
-use Rattle.word.proofs.RealWords.{cells_at_hand, real_cells_at_hand}
+use Rattle.word.proofs.RealWords.{cells_at_hand}
 use Rattle.word.proofs.Computed.{answer_computed}
 use Rattle.word.proofs.OneWord as OneWord
 use Rattle.cell.specs.Cells.{sum_cells}
@@ -46,9 +46,6 @@ module _ (f : Formats.Format) {a b : ℕ} {x y : Span} (t : CellsOfBoth f.n a b 
 
   pub both_cells : Cells n x × Cells n y
   both_cells = (cells_at_hand (within f) t.left_real t.left, cells_at_hand (within f) t.right_real t.right)
-
-  pub both_real_cells : RealCells n x × RealCells n y
-  both_real_cells = (real_cells_at_hand (within f) t.left_real t.left, real_cells_at_hand (within f) t.right_real t.right)
 
   zero_of_right : has_zero n y ≡ is_member n es b (whole (pos 0))
   zero_of_right = zero_member (within f) t.right_real t.right

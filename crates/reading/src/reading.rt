@@ -19,6 +19,7 @@ pub struct Reading {
     pub high: f64,
 }
 
+// What goes out; document 01 gives the empty mark beside the floats, so an empty range is no None.
 #[derive(Clone, Copy)]
 pub struct Outgoing {
     pub low: f64,

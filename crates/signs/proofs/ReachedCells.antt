@@ -1,16 +1,12 @@
 -- All cells that are computed for products and quotients are cells of the format, and a limit above 0 is a posit above 0.
-use mathlib.Core.Path.{◌≡◌, refl, sym, ◌∙◌}
+use mathlib.Core.Path.{◌≡◌, refl, ◌∙◌}
 use mathlib.Core.Bool.{Bool, true, false, ◌&&◌, ◌||◌}
-use mathlib.Core.Logic.{◌⊎◌, inl, inr}
-use Prim.Native.Nat.{ℕ, ◌+◌, ◌-◌, ◌*◌, ◌/◌, ◌%◌, ◌^◌, ◌≤◌, ◌<◌}
+use Prim.Native.Nat.{ℕ, ◌+◌, ◌-◌, ◌*◌, ◌/◌, ◌^◌, ◌≤◌, ◌<◌}
 use native.Mathlib.Omega.{arith}
 use native.Mathlib.Decide.{dec_le}
-use lib.Dec.{eqb}
-use borrow.Author.Tests.{eq-eqb, ne_eqb, eqb-false, lt-ltb, le-ltb}
+use borrow.Author.Tests.{eq-eqb, eqb-false, lt-ltb, le-ltb}
 use Rattle.posit.specs.Format.{nar}
 use Rattle.posit.specs.Value.{value}
-use Rattle.posit.specs.Parts.{chosen_by}
-use Rattle.exact.proofs.Powers.{parity}
 use Rattle.posit.proofs.Patterns.{some_bit}
 use Rattle.word.specs.declared.inner.span.Span.{Span}
 use Rattle.word.specs.Numbered.{count, pattern_at}
@@ -171,39 +167,9 @@ module _ (n c : ℕ) {z : ℕ} where
   pub start_unlimited : z ≡ 2 ^ n → c ≡ z → (start_edge n c).unlimited ≡ true
   start_unlimited e h = eq-eqb c (2 ^ n) (h ∙ e)
 
-  pub start_limited : z ≡ 2 ^ n → (c ≡ z → ⊥) → (start_edge n c).unlimited ≡ false
-  start_limited e h = ne_eqb c (2 ^ n) (λ k. h (k ∙ sym e))
-
-  pub end_limited : z ≡ top_cell n → (c ≡ z → ⊥) → (end_edge n c).unlimited ≡ false
-  end_limited e h = ne_eqb c (top_cell n) (λ k. h (k ∙ sym e))
-
--- the product of two marks chooses as both tests do
-by_marks : (a b s t : ℕ) → chosen_by (a % 2 * (b % 2)) s t ≡ pick_cell (eqb (a % 2) 1 && eqb (b % 2) 1) t s
-by_marks a b s t = go (parity a) (parity b)
-  where
-    go : (a % 2 ≡ 0) ⊎ (a % 2 ≡ 1) → (b % 2 ≡ 0) ⊎ (b % 2 ≡ 1) → chosen_by (a % 2 * (b % 2)) s t ≡ pick_cell (eqb (a % 2) 1 && eqb (b % 2) 1) t s
-    go (inl e) (inl f) = rw (e, f)
-    go (inl e) (inr f) = rw (e, f)
-    go (inr e) (inl f) = rw (e, f)
-    go (inr e) (inr f) = rw (e, f)
-
 module _ (n es : ℕ) (divide : Bool) (x y : Edge) {r : ℕ} where
   pub first_no_left : r ≡ 2 ^ n → x.unlimited ≡ true → r ≡ first_cell n es divide x y
   first_no_left h e = rw e h
-
-  pub first_no_right : r ≡ 2 ^ n → x.unlimited ≡ false → y.unlimited ≡ true → r ≡ first_cell n es divide x y
-  first_no_right h e f = rw (e, f) h
-
-  pub last_no_right : r ≡ top_cell n → x.unlimited ≡ false → y.unlimited ≡ true → r ≡ last_cell n es divide x y
-  last_no_right h e f = rw (e, f) h
-
-  module _ (e : x.unlimited ≡ false) (f : y.unlimited ≡ false) (a b : ℕ) (i : x.closed ≡ eqb (a % 2) 1) (j : y.closed ≡ eqb (b % 2) 1)
-      {c : ℕ} (h : c ≡ result_cell n es divide x.posit y.posit) where
-    pub first_limited : r ≡ chosen_by (a % 2 * (b % 2)) (2 * ((c + 1) / 2)) c → r ≡ first_cell n es divide x y
-    first_limited k = rw (e, f, i, j, ← h) (k ∙ by_marks a b (2 * ((c + 1) / 2)) c)
-
-    pub last_limited : r ≡ chosen_by (a % 2 * (b % 2)) (2 * (c / 2)) c → r ≡ last_cell n es divide x y
-    last_limited k = rw (e, f, i, j, ← h) (k ∙ by_marks a b (2 * (c / 2)) c)
 
 module _ (n es : ℕ) (divide : Bool) (p q : Span) {r : Span} where
   pub both_parts : r ≡ positive_some n es divide p q → p.lo ≤ top_cell n → q.lo ≤ top_cell n → r ≡ positive_results n es divide p q

@@ -5,7 +5,6 @@ pub mod mixed;
 pub mod multiply;
 pub mod one_sign;
 pub mod parts;
-pub mod positive;
 pub mod scaling;
 pub mod signs;
 pub mod zero;

@@ -137,15 +137,6 @@ module _ (n es a : ℕ) where
   pub range_real : (verdict_of_range n es a).number ≡ 0 → Real n a
   range_real z = word_real n left a (range_passed z).1
 
-  pub range_passes : is_format n es ≡ true → (verdict_of_word n left a).number ≡ 0 → (verdict_of_range n es a).number ≡ 0
-  range_passes e z = ap (λ (v : Verdict). v.number) (range_inside e) ∙ z
-
-  pub range_done : (verdict_of_range n es a).number ≡ 0 → verdict_of_range n es a ≡ done
-  range_done z =
-      let p = range_passed z in
-      let r = range_real z in
-      range_inside p.0 ∙ word_done n left a r.fits r.no_infinity
-
 -- ---- two ranges
 module _ (n es a b : ℕ) where
   pub ranges_outside : is_format n es ≡ false → verdict_of_ranges n es a b ≡ record { number = 1; place = 0 }
@@ -175,17 +166,6 @@ module _ (n es a b : ℕ) where
 
   right_done : (verdict_of_ranges n es a b).number ≡ 0 → (verdict_of_word n right b).number ≡ 0
   right_done z = ap (λ (v : Verdict). v.number) (sym (ranges_right (left_done z))) ∙ z
-
-  pub ranges_format : (verdict_of_ranges n es a b).number ≡ 0 → Format n es
-  ranges_format z = range_format n es a (left_done z)
-
-  pub ranges_real : (verdict_of_ranges n es a b).number ≡ 0 → Real n a × Real n b
-  ranges_real z = (range_real n es a (left_done z), word_real n right b (right_done z))
-
-  pub ranges_done : (verdict_of_ranges n es a b).number ≡ 0 → verdict_of_ranges n es a b ≡ done
-  ranges_done z =
-      let r = word_real n right b (right_done z) in
-      ranges_right (left_done z) ∙ word_done n right b r.fits r.no_infinity
 
 -- ---- the comparisons: P is one of the three
 module _ (P : ℕ → ℕ → ℕ → ℕ → Type 0) (a b : ℕ) {n es : ℕ} (f : Format.Format) (is : (n ≡ f.n) × (es ≡ f.es)) where

@@ -17,9 +17,9 @@ pub record Negative (n es a : ℕ) (z : Fraction) : Type 0 where
 abbrev pub NegationOf : ℕ → ℕ → ℕ → Result ℕ Refusal → Type 0
 NegationOf n es a r = Answers (verdict_of_range n es a) (IsAnswer n es (Negative n es a)) r
 
--- a reply says yes exactly where P holds
+-- an answer is yes exactly where P holds
 abbrev pub Tells : Type 0 → Bool → Type 0
-Tells P reply = (reply ≡ true) ↔ P
+Tells P answer = (answer ≡ true) ↔ P
 
 abbrev pub ComparisonOf : (ℕ → ℕ → ℕ → ℕ → Type 0) → ℕ → ℕ → ℕ → ℕ → Result Bool Refusal → Type 0
 ComparisonOf P n es a b r = Answers (verdict_of_ranges n es a b) (Tells (P n es a b)) r

@@ -10,7 +10,7 @@ ghost use Rattle.word.specs.Spans.{top_cell, cells_of, mirrored, Cells, word_at}
 ghost use Rattle.word.specs.Computed.{cell_of, answer_of};
 ghost use Rattle.cell.specs.Cells.{sum_start, sum_end, sum_cells};
 
-use super::cell::{above_zero, end_posit, start_posit, with_sign};
+use super::cell::{above_zero, posit_at, with_sign};
 use super::signed::signed_form;
 use code::inner::form::code_of;
 use code::inner::step::step_of;
@@ -68,7 +68,7 @@ fn sum_start(f: Format, x: u32, y: u32) -> u32
     if y == 0 {
         return 0;
     }
-    let cell = sum_cell(f, start_posit(f, x), start_posit(f, y));
+    let cell = sum_cell(f, posit_at(f, (x - 1) / 2), posit_at(f, (y - 1) / 2));
     let gap = 1 - x % 2 * (y % 2);
     cell + cell % 2 * gap
 }
@@ -85,7 +85,7 @@ fn sum_end(f: Format, x: u32, y: u32) -> u32
     if y == top {
         return top;
     }
-    let cell = sum_cell(f, end_posit(f, x), end_posit(f, y));
+    let cell = sum_cell(f, posit_at(f, x / 2), posit_at(f, y / 2));
     let gap = 1 - x % 2 * (y % 2);
     cell - cell % 2 * gap
 }

@@ -1,5 +1,5 @@
 // The cell of an exact number: the posit that it is, or the gap between posits in which it lies.
-ghost use Rattle.std.specs.Prelude.{◌≡◌, Bool, ◌+◌, ◌-◌, ◌/◌, ◌^◌, ◌<◌, ◌≤◌};
+ghost use Rattle.std.specs.Prelude.{◌≡◌, Bool, ◌+◌, ◌-◌, ◌*◌, ◌^◌, ◌<◌, ◌≤◌};
 ghost use Rattle.exact.specs.Fraction.{Fraction};
 ghost use Rattle.word.specs.Numbered.{pattern_at};
 ghost use Rattle.word.specs.Spans.{top_cell};
@@ -42,22 +42,13 @@ pub fn cell_of(f: Format, negative: bool, x: Magnitude) -> u32
     ensures { CellEach f.n f.es negative x result }
 {
     let at = locate(f, x);
-    let lost = x.lost;
-    with_sign(f, negative, cell_from(f, at.pattern, at.exact & !lost))
+    with_sign(f, negative, cell_from(f, at.pattern, at.exact & !x.lost))
 }
 
-// The posit at or below a start cell.
-pub fn start_posit(f: Format, cell: u32) -> u32
-    requires { (0 < cell) × (cell ≤ top_cell f.n) }
-    ensures { result ≡ pattern_at f.n ((cell - 1) / 2) }
+// The posit numbered k, from the lowest finite one up.
+pub fn posit_at(f: Format, k: u32) -> u32
+    requires { 2 * k < top_cell f.n }
+    ensures { result ≡ pattern_at f.n k }
 {
-    ((cell - 1) / 2 + power32(f.n - 1) + 1) % power32(f.n)
-}
-
-// The posit at or above an end cell.
-pub fn end_posit(f: Format, cell: u32) -> u32
-    requires { cell < top_cell f.n }
-    ensures { result ≡ pattern_at f.n (cell / 2) }
-{
-    (cell / 2 + power32(f.n - 1) + 1) % power32(f.n)
+    (k + power32(f.n - 1) + 1) % power32(f.n)
 }

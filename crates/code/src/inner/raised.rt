@@ -5,7 +5,7 @@ ghost use Rattle.std.specs.Float.Ieee.{lt};
 // The bits of 2^-26.
 const BELOW: u64 = 0x3e50_0000_0000_0000;
 
-// The greater of two doubles; both are at hand, so that no jump is needed.
+// The greater of two doubles; the law of the library's `max` goes by cases of a NaN, and neither is one.
 fn greater(x: f64, y: f64) -> f64
     ensures { result ≡ (if lt x y then y else x) }
 {

@@ -1,4 +1,4 @@
-// The test of a divisor: 5 where 0 is one of its members.
+// The test of a divisor: 0 is none of its members.
 ghost use Rattle.std.specs.Prelude.{[], ◌∷◌};
 ghost use Rattle.call.specs.Operation.{number_of};
 ghost use Rattle.call.specs.Verdict.{first_hit, Says};

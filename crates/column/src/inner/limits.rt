@@ -1,4 +1,4 @@
-// The tests of the lengths of columns: 1, 2, 7 and 9, at place 0.
+// The tests of a call on columns before any word is read, all at place 0: its format, its operation, the columns' lengths and the room.
 ghost use Rattle.call.specs.Verdict.{first_hit, Answers};
 ghost use Rattle.column.specs.Column.{column_limits};
 ghost use Rattle.column.specs.Taken.{IsCallOf};

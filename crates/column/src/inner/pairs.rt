@@ -31,7 +31,7 @@ pub fn judge_pairs(f: Format, op: Operation, left: &[u64], right: &[u64]) -> Res
     Ok(())
 }
 
-// The answers of pairs that were judged, written from the front.
+// The answers of pairs that were judged, written from the front, by number: after a loop over `iter_mut` nothing is known of what was written.
 pub fn write_answers(f: Format, op: Operation, left: &[u64], right: &[u64], out: &mut [u64])
     requires fits { (length left.now ≡ length right.now) × (length left.now ≤ length out.old) }
     requires passes { first_hit (pairs_tests f.n f.es (number_of op) 0 left.now right.now) ≡ done }

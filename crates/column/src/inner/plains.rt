@@ -39,7 +39,7 @@ pub fn takes_plain_way(f: Format, op: Operation, left: &[u64], right: &[u64]) ->
     }
 }
 
-// One such pair.
+// One such pair; a difference has no such way and is not asked for.
 pub fn plain_answer(f: Format, op: Operation, a: u64, b: u64) -> u64
     requires { (number_of op ≢ minus) × (is_spread f.n a ≡ true) × (is_plain f.n b ≡ true) }
     ensures { result ≡ answer_of f.n f.es (number_of op) a b }
@@ -51,7 +51,7 @@ pub fn plain_answer(f: Format, op: Operation, a: u64, b: u64) -> u64
     }
 }
 
-// The answers of such columns, written from the front.
+// The answers of such columns, written from the front; not by `write_answers` with a closure, which would be asked the same of both kinds of pairs.
 pub fn write_plain(f: Format, op: Operation, left: &[u64], right: &[u64], out: &mut [u64])
     requires fits { (length left.now ≡ length right.now) × (length left.now ≤ length out.old) }
     requires plain { takes_plain_way f.n (number_of op) left.now right.now ≡ true }

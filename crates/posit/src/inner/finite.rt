@@ -2,6 +2,9 @@
 ghost use Rattle.std.specs.Prelude.{◌≡◌, ◌%◌};
 ghost use Rattle.posit.specs.SmallForm.{SmallForm};
 
+// Scales are counted from 2^-UNIT_BITS, below that of every posit.
+pub const UNIT_BITS: i32 = 56;
+
 #[derive(Clone, Copy, Debug, PartialEq, Eq)]
 pub struct Finite {
     pub negative: bool,

@@ -21,7 +21,7 @@ const BIAS: i32 = 1023;
 // The smallest float above 0 is 2^-LOWEST.
 const LOWEST: u64 = 1074;
 
-// Digits below this are moved up by SPARE_BITS, so that they are as many as `locate` asks for.
+// Digits below this are moved up by SPARE_BITS, so that they are as many as a `Magnitude` has.
 const FEW: u64 = 0x1_0000_0000;
 
 const SPARE_BITS: u64 = 16;

@@ -8,7 +8,7 @@ use super::format::Format;
 use super::magnitude::Magnitude;
 use super::power::{highest_bit, power, power32};
 
-// The largest pattern whose value is at most the magnitude, and whether it is the magnitude.
+// The largest pattern whose value is at most the magnitude, and whether it is the magnitude: there always is one, so this is no Option.
 #[derive(Clone, Copy, Debug, PartialEq, Eq)]
 pub struct Located {
     pub pattern: u32,

@@ -1,7 +1,8 @@
 // A magnitude above 0 that is known to a word.
 ghost use Rattle.std.specs.Prelude.{◌^◌, ◌<◌, ◌≤◌};
 
-// From g · 2^s / 2^a to below (g + 1) · 2^s / 2^a; on the lower end itself unless something was lost below.
+// From g · 2^s / 2^a to below (g + 1) · 2^s / 2^a; on the lower end itself unless something was lost below,
+// which is a digit more and no want of a value.
 #[derive(Clone, Copy, Debug, PartialEq, Eq)]
 pub struct Magnitude {
     pub g: u64,

@@ -11,7 +11,7 @@ pub fn power(k: u32) -> u64
     1u64 << k
 }
 
-// 2^k in half a word.
+// 2^k in half a word; one function over both words would need a trait whose laws are longer than these two.
 pub fn power32(k: u32) -> u32
     requires { k < 32 }
     ensures { result ≡ 2 ^ k }

@@ -1,16 +1,13 @@
 // The quotient of the sizes of two numbers, with a mark for its remainder.
 ghost use Rattle.posit.specs.Magnitudes.{QuotientOf};
 
-use super::finite::Finite;
+use super::finite::{Finite, UNIT_BITS};
 use super::magnitude::Magnitude;
 
-// Zero bits put below the dividend, so that the quotient has as many as `locate` asks for, and 2 to that power.
+// Zero bits put below the dividend, so that the quotient has as many as a `Magnitude` has, and 2 to that power.
 const SPARE_BITS: u64 = 47;
 
 const SPARE: u64 = 0x8000_0000_0000;
-
-// Scales are counted from 2^-OFFSET, below that of every posit.
-const OFFSET: i32 = 56;
 
 // The size of x over that of y.
 pub fn quotient(x: Finite, y: Finite) -> Magnitude
@@ -20,8 +17,8 @@ pub fn quotient(x: Finite, y: Finite) -> Magnitude
     let divisor = y.fraction as u64;
     Magnitude {
         g: dividend / divisor,
-        s: (x.scale + OFFSET) as u64,
-        a: (y.scale + OFFSET) as u64 + SPARE_BITS,
+        s: (x.scale + UNIT_BITS) as u64,
+        a: (y.scale + UNIT_BITS) as u64 + SPARE_BITS,
         lost: dividend % divisor != 0,
     }
 }

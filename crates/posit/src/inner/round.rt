@@ -10,7 +10,8 @@ use super::magnitude::Magnitude;
 use super::power::{negated, power32};
 
 // The posit that a magnitude above 0 is rounded to, from its floor among the patterns one bit longer and whether that is exact: from an odd
-// floor up, unless the magnitude is on it and the lower posit is even. No jump depends on which it is.
+// floor up, unless the magnitude is on it and the lower posit is even. No jump depends on which it is. The mark is no part of
+// the floor, since what is lost below a magnitude changes it.
 pub fn rounded(f: Format, floor: u32, exact: bool) -> u32
     requires { floor < 2 ^ f.n }
     ensures { result ≡ rounded_of f.n floor exact }
@@ -34,13 +35,10 @@ pub fn with_sign(f: Format, negative: bool, p: u32) -> u32
     if negative { negated(f.n, p) } else { p }
 }
 
-// The posit that a magnitude with a sign is rounded to.
+// The posit that a magnitude with a sign is rounded to; the two come apart, as products, quotients and floats have them.
 pub fn round_magnitude(f: Format, negative: bool, x: Magnitude) -> u32
     ensures { RoundsEach f.n f.es negative x result }
 {
     let at = locate(f, x);
-    if x.lost {
-        return with_sign(f, negative, rounded(f, at.pattern, false));
-    }
-    with_sign(f, negative, rounded(f, at.pattern, at.exact))
+    with_sign(f, negative, rounded(f, at.pattern, at.exact & !x.lost))
 }

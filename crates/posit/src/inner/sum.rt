@@ -2,13 +2,10 @@
 ghost use Rattle.std.specs.Prelude.{◌^◌, ◌<◌};
 ghost use Rattle.posit.specs.Magnitudes.{SumOf, DifferenceOf};
 
-use super::finite::Finite;
+use super::finite::{Finite, UNIT_BITS};
 use super::magnitude::Magnitude;
 use super::signed::Signed;
 use super::wide::{narrowed, widened};
-
-// Scales are counted from 2^-OFFSET, below that of every posit.
-const OFFSET: i32 = 56;
 
 // The difference of two magnitudes, with the sign of the first where it is the larger and the other sign where it is the smaller; none of two equal ones.
 fn difference(negative: bool, x: u128, y: u128) -> Option<Signed<Magnitude>>
@@ -33,8 +30,8 @@ fn difference(negative: bool, x: u128, y: u128) -> Option<Signed<Magnitude>>
 pub fn exact_sum(x: Finite, y: Finite) -> Option<Signed<Magnitude>>
     ensures { SumOf x y result }
 {
-    let left = widened(x.fraction, (x.scale + OFFSET) as u32);
-    let right = widened(y.fraction, (y.scale + OFFSET) as u32);
+    let left = widened(x.fraction, (x.scale + UNIT_BITS) as u32);
+    let right = widened(y.fraction, (y.scale + UNIT_BITS) as u32);
     if x.negative == y.negative {
         return Some(Signed {
             negative: x.negative,

@@ -31,7 +31,7 @@ fn tail_apart(f: Format, regime: u32, w: u32, tail: u32) -> Parts
     }
 }
 
-// The parts of a magnitude p, a pattern of b bits that is not 0, without a jump on its run: of zeros the highest set bit closes it, of ones the highest
+// The parts of a magnitude p, a pattern of one bit less than the width that is not 0, without a jump on its run: of zeros the highest set bit closes it, of ones the highest
 // that is missing; where none is, all bits are the run.
 pub fn take_apart(f: Format, p: u32) -> Parts
     requires { (0 < p) × (p < 2 ^ (f.n - 1)) }

@@ -2,10 +2,8 @@
 ghost use Rattle.std.specs.Prelude.{◌≡◌, ◌*◌, ◌^◌, ◌<◌, ◌≤◌};
 ghost use Rattle.posit.specs.Magnitudes.{Narrows};
 
+use super::finite::UNIT_BITS;
 use super::magnitude::Magnitude;
-
-// The unit is 2^-UNIT_BITS.
-const UNIT_BITS: u64 = 56;
 
 // A magnitude takes the first 62 of 128 bits, and CUT_BITS lie below them.
 const CUT_BITS: u64 = 66;
@@ -30,7 +28,7 @@ pub fn narrowed(x: u128) -> Magnitude
     Magnitude {
         g: (first / CUT) as u64,
         s: CUT_BITS,
-        a: UNIT_BITS + u64::from(zeros),
+        a: UNIT_BITS as u64 + u64::from(zeros),
         lost: first % CUT != 0,
     }
 }

@@ -1,4 +1,4 @@
-// The tests of the lengths of a sheet: 1, 7 and 9, at place 0.
+// The tests of a sheet before any word or step is read, all at place 0: its format, its size and the room.
 ghost use Rattle.call.specs.Verdict.{first_hit, Answers};
 ghost use Rattle.sheet.specs.Sheet.{sheet_limits};
 ghost use Rattle.sheet.specs.Working.{IsOf};

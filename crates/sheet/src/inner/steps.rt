@@ -44,6 +44,7 @@ pub fn judge_step(
 {
     let row = rows.len();
     let place = row as u32;
+    // By `match`: `map_err` takes a closure, whose answer the proof would have to find again.
     let op = match Operation::try_from(op) {
         Ok(op) => op,
         Err(reason) => return Err(reason.at(place)),

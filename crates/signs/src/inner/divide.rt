@@ -1,4 +1,4 @@
-// The quotient of two real ranges, with the divisor's 0 left out.
+// The quotient of two real ranges, with the divisor's 0 left out. Not one with the product, which may be turned round and has 0 from either operand.
 ghost use Rattle.std.specs.Prelude.{◌≡◌, ◌≤◌};
 ghost use Rattle.word.specs.Member.{Real};
 ghost use Rattle.word.specs.Spans.{RealCells, word_at};

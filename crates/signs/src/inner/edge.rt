@@ -7,7 +7,8 @@ use posit::inner::format::Format;
 use posit::inner::power::power32;
 use word::inner::span::top_cell;
 
-// An end among the numbers above 0: no limit, or a posit that is a member itself or not.
+// An end among the numbers above 0: no limit, or a posit that is a member itself or not. No Option of an end: a cell joins the marks of two edges as
+// digits, without a jump.
 #[derive(Clone, Copy, Debug, PartialEq, Eq)]
 pub struct Edge {
     pub unlimited: bool,

@@ -5,7 +5,11 @@ ghost use Rattle.signs.specs.Signs.{first_edge, last_edge, CellAbove};
 ghost use Rattle.cell.specs.Cells.{result_cell};
 
 use super::edge::{Edge, end_edge, start_edge};
-use super::positive::{product_cell, quotient_cell};
+use cell::inner::cell::above_zero;
+use code::inner::form::code_of;
+use code::inner::product::product;
+use code::inner::quotient::quotient;
+use code::inner::step::step_of;
 use posit::inner::format::Format;
 use word::inner::span::Span;
 
@@ -37,7 +41,7 @@ impl Scaling for Product {
     ghost divides = { false };
 
     fn cell(f: Format, p: u32, q: u32) -> u32 {
-        product_cell(f, p, q)
+        above_zero(f, step_of(f, product(f, code_of(f, p), code_of(f, q))))
     }
 
     fn first_edge(f: Format, q: Span) -> Edge {
@@ -57,7 +61,7 @@ impl Scaling for Quotient {
     ghost divides = { true };
 
     fn cell(f: Format, p: u32, q: u32) -> u32 {
-        quotient_cell(f, p, q)
+        above_zero(f, step_of(f, quotient(f, code_of(f, p), code_of(f, q))))
     }
 
     fn first_edge(f: Format, q: Span) -> Edge {

@@ -20,7 +20,7 @@ fn part_above(f: Format, s: Span) -> Span
     }
     Span {
         lo: s.lo.max(first),
-        hi: hi,
+        hi,
     }
 }
 

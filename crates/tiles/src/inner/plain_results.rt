@@ -62,6 +62,7 @@ pub fn sum_end_tile(f: Format, u: u32, v: u32) -> u32
 }
 
 // The start tile of the products or quotients from the tile s and the right word's tile t on: an open 0 where either is.
+#[inline]
 fn results_start<S: Scaling>(f: Format, s: u32, t: u32) -> u32
     requires { (PlainStart f.n s) × (PlainStart f.n t) }
     ensures { result ≡ start_tile_at f.n (first_cell f.n f.es S.divides (edge_at s) (edge_at t)) }
@@ -73,6 +74,7 @@ fn results_start<S: Scaling>(f: Format, s: u32, t: u32) -> u32
 }
 
 // The end tile of such results up to the tile u and the right word's tile t: an open NaR, no limit, where t is an open 0.
+#[inline]
 pub fn results_end<S: Scaling>(f: Format, u: u32, t: u32) -> u32
     requires { (PlainEnd f.n u) × (PlainStart f.n t) }
     ensures { result ≡ end_tile_at f.n (last_cell f.n f.es S.divides (edge_at u) (edge_at t)) }

@@ -1,4 +1,4 @@
-// The tests of range words: 3 for a word that is too large, 4 for one that holds infinity.
+// The tests of range words: too large, and holding infinity.
 ghost use Rattle.call.specs.Verdict.{Says};
 ghost use Rattle.word.specs.Calls.{verdict_of_word};
 ghost use Rattle.word.specs.Refusal.{verdict_of_words};
@@ -8,7 +8,7 @@ use call::place::{LEFT, RIGHT};
 use call::refusal::Refusal;
 use posit::inner::format::Format;
 
-// One word, at a place.
+// One word, at a place; `map_err` takes a closure, whose answer the proof would have to find again.
 pub fn judge_word(f: Format, place: u32, a: u64) -> Result<(), Refusal>
     ensures { Says (verdict_of_word f.n place a) result }
 {

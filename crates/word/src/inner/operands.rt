@@ -7,6 +7,7 @@ use call::place::RIGHT;
 use call::refusal::Refusal;
 use posit::inner::format::Format;
 
+// By `match`, as in `judge_word`.
 pub fn take_words(f: Format, a: u64, b: u64) -> Result<(Span, Span), Refusal>
     ensures { TakesBoth f.n a b result }
 {

@@ -6,7 +6,7 @@ ghost use Rattle.word.specs.Spans.{top_cell, no_cells, mirrored, start_cell, end
 use posit::inner::format::Format;
 use posit::inner::power::{power, power32};
 
-// The cells from lo to hi; none where lo is above hi.
+// The cells from lo to hi; none where lo is above hi. No Option of a span: the hull of two takes the least and the greatest cell without a test.
 #[derive(Clone, Copy, Debug, PartialEq, Eq)]
 pub struct Span {
     pub lo: u32,

@@ -11,8 +11,8 @@ returns-then-y-top c = end_right _ c.args.f.es c.args.f.wide_enough c.args.x c.t
 
 pub sum_cell-cell-requires : goal.sum_cell-cell-requires
 sum_cell-cell-requires c = (
-  end_finite _ c.args.f.es c.args.f.wide_enough c.top_cell-top.ensures c.if-x-top.false c.requires.0 c.end_posit.ensures,
-  end_finite _ c.args.f.es c.args.f.wide_enough c.top_cell-top.ensures c.if-y-top.false c.requires.1 c.end_posit-2.ensures,
+  end_finite _ c.args.f.es c.args.f.wide_enough c.top_cell-top.ensures c.if-x-top.false c.requires.0 c.posit_at.ensures,
+  end_finite _ c.args.f.es c.args.f.wide_enough c.top_cell-top.ensures c.if-y-top.false c.requires.1 c.posit_at-2.ensures,
 )
 
 pub overflow_mul-gap : goal.overflow_mul-gap
@@ -29,4 +29,4 @@ overflow_sub-result c = omega (arith, moved_small c.sum_cell-cell.result c.args.
 
 pub returns : goal.returns
 returns c =
-    end_found _ _ c.args.f.wide_enough c.args.x c.args.y (omega arith) (omega arith) c.end_posit.ensures c.end_posit-2.ensures c.sum_cell-cell.ensures
+    end_found _ _ c.args.f.wide_enough c.args.x c.args.y (omega arith) (omega arith) c.posit_at.ensures c.posit_at-2.ensures c.sum_cell-cell.ensures

@@ -11,8 +11,8 @@ returns-then-y-eq0 c = start_right _ c.args.f.es c.args.f.wide_enough c.args.x c
 
 pub sum_cell-cell-requires : goal.sum_cell-cell-requires
 sum_cell-cell-requires c = (
-  start_finite _ c.args.f.es c.args.f.wide_enough c.if-x-eq0.false c.requires.0 c.start_posit.ensures,
-  start_finite _ c.args.f.es c.args.f.wide_enough c.if-y-eq0.false c.requires.1 c.start_posit-2.ensures,
+  start_finite _ c.args.f.es c.args.f.wide_enough c.if-x-eq0.false c.requires.0 c.posit_at.ensures,
+  start_finite _ c.args.f.es c.args.f.wide_enough c.if-y-eq0.false c.requires.1 c.posit_at-2.ensures,
 )
 
 pub overflow_mul-gap : goal.overflow_mul-gap
@@ -29,5 +29,5 @@ overflow_add-result c = omega (arith, moved_small c.sum_cell-cell.result c.args.
 
 pub returns : goal.returns
 returns c =
-    start_found _ _ c.args.f.wide_enough c.args.x c.args.y c.start_posit.ensures c.start_posit-2.ensures c.sum_cell-cell.ensures
+    start_found _ _ c.args.f.wide_enough c.args.x c.args.y c.posit_at.ensures c.posit_at-2.ensures c.sum_cell-cell.ensures
     c.if-x-eq0.false c.if-y-eq0.false

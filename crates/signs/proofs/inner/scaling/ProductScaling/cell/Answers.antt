@@ -1,7 +1,7 @@
--- `signs::inner::positive::product_cell` meets its contract: the codes say what the posits are, so their exact product has its step.
+-- `signs::inner::scaling::ProductScaling::cell` meets its contract: the codes say what the posits are, so their exact product has its step.
 use Rattle.posit.proofs.Formats.{within}
 use Rattle.cell.proofs.ResultCell.{known_fits, known_cell, same_product}
-use Rattle.signs.proofs.inner.positive.product_cell.Goals as goal
+use Rattle.signs.proofs.inner.scaling.ProductScaling.cell.Goals as goal
 
 pub above_zero-requires : goal.above_zero-requires
 above_zero-requires c = known_fits (within c.args.f) c.product.ensures c.step_of.ensures
