@@ -1,14 +1,9 @@
--- The inner promises of a sheet's work: its format and operations, rows that are real ranges, and the rows that its steps come to.
+-- The inner promises of a sheet's work: its operations, rows that are real ranges, and the rows that its steps come to.
 use Rattle.std.specs.Prelude.{◌≡◌, List, ℕ, ◌<◌, length, get_or}
 use Rattle.call.specs.declared.operation.Operation.{Operation}
 use Rattle.call.specs.Operation.{number_of}
-use Rattle.posit.specs.declared.inner.format.Format.{Format}
 use Rattle.word.specs.Member.{Real}
 use Rattle.sheet.specs.Sheet.{steps_of, rows_of}
-
--- the format of n and es
-abbrev pub IsOf : ℕ → ℕ → Format → Type 0
-IsOf n es f = (n ≡ f.n) × (es ≡ f.es)
 
 -- the operation of a number
 abbrev pub IsOperation : ℕ → Operation → Type 0

@@ -1,7 +1,7 @@
 // The tests of a sheet before any word or step is read, all at place 0: its format, its size and the room.
 ghost use Rattle.call.specs.Verdict.{first_hit, Answers};
 ghost use Rattle.sheet.specs.Sheet.{sheet_limits};
-ghost use Rattle.sheet.specs.Working.{IsOf};
+ghost use Rattle.posit.specs.Formats.{IsOf};
 
 use call::place::LEFT;
 use call::reason::Reason;

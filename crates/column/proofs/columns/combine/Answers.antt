@@ -85,8 +85,8 @@ returns-then-takes_plain_way c =
     let f = c.in_ok-f.f in
     let op = number_of c.in_ok-f.op in
     written a.n a.es a.op a.left.now a.right.now a.row a.lent.now (limits_passed (goal.at.returns-then-takes_plain_way c).In_ok-f)
-    (rw (k.n_is, k.es_is, k.operation_is) (plain_passes (within f) op 0 a.left.now a.right.now (way_plain f.n op a.left.now a.right.now (sym c.if-takes_plain_way.ensures))))
-    (rw (k.n_is, k.es_is, k.operation_is) c.write_plain.ensures)
+    (rw (k.format_is.0, k.format_is.1, k.operation_is) (plain_passes (within f) op 0 a.left.now a.right.now (way_plain f.n op a.left.now a.right.now (sym c.if-takes_plain_way.ensures))))
+    (rw (k.format_is.0, k.format_is.1, k.operation_is) c.write_plain.ensures)
 
 pub judge_pairs-requires : goal.judge_pairs-requires
 judge_pairs-requires c = let f = fit (goal.at.judge_pairs-requires c).In_ok-f in (f.as_long, f.short)
@@ -97,7 +97,7 @@ returns-in_err-judge_pairs c =
     let a = c.args in
     let k = c.in_ok-f.ensures.1 in
     let v = refused_next (limits_passed (goal.at.returns-in_err-judge_pairs c).In_ok-f) (pairs_tests a.n a.es a.op 0 a.left.now a.right.now)
-    (rw (k.n_is, k.es_is, k.operation_is) c.in_err-judge_pairs.ensures) in
+    (rw (k.format_is.0, k.format_is.1, k.operation_is) c.in_err-judge_pairs.ensures) in
     record { count = passes_on _ _ _ c.from_residual-in_err-judge_pairs.ensures v; later = later_refused _ a.row _ a.lent.now v }
 
 pub offset_bounds-lent-row-2 : goal.offset_bounds-lent-row-2
@@ -125,5 +125,5 @@ returns c =
     let f = c.in_ok-f.f in
     let op = number_of c.in_ok-f.op in
     written a.n a.es a.op a.left.now a.right.now a.row a.lent.now (limits_passed (goal.at.returns c).In_ok-f)
-    (rw (k.n_is, k.es_is, k.operation_is) (passing_of (pairs_refusing f.n f.es op 0 a.left.now a.right.now) (accepts c.in_ok-judge_pairs.ensures.0)))
-    (rw (k.n_is, k.es_is, k.operation_is) c.write_answers.ensures)
+    (rw (k.format_is.0, k.format_is.1, k.operation_is) (passing_of (pairs_refusing f.n f.es op 0 a.left.now a.right.now) (accepts c.in_ok-judge_pairs.ensures.0)))
+    (rw (k.format_is.0, k.format_is.1, k.operation_is) c.write_answers.ensures)

@@ -52,5 +52,5 @@ returns c =
     let a = c.args in
     let lengths = length_passed c.in_ok-f.f c.in_ok-f.ensures c.in_ok-op.op c.in_ok-op.ensures c.if-left-right.false c.if-left-gt-LONGEST_COLUMN.false in (
       passing_done (passing_both lengths (one_passes {t = room_test a.row a.left a.lent} (le-ltb a.lent _ (omega arith)) all_pass)),
-      record { n_is = c.in_ok-f.ensures.0; es_is = c.in_ok-f.ensures.1; operation_is = sym c.in_ok-op.ensures },
+      record { format_is = c.in_ok-f.ensures; operation_is = sym c.in_ok-op.ensures },
     )
