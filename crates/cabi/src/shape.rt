@@ -68,6 +68,7 @@ pub const EQUAL: u32 = 1;
 
 pub const GREATER: u32 = 2;
 
+// C has no generic struct, so each answer's struct is made of its own Result.
 impl From<Result<u32, Refusal>> for PositAnswer {
     ghost from_gives = { λ x r. r ≡ Spec.of_answer x };
 

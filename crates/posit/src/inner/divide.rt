@@ -1,4 +1,4 @@
-// The quotient of two posits, by cases on the decoded operands.
+// The quotient of two posits, by cases on the decoded operands; apart from the product, since a zero divisor gives NaR and a zero dividend 0.
 ghost use Rattle.std.specs.Prelude.{◌^◌, ◌<◌};
 ghost use Rattle.call.specs.Operation.{over};
 ghost use Rattle.posit.specs.Operation.{Operates};

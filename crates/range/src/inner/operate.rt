@@ -1,4 +1,4 @@
-// The operation on two real ranges.
+// The operation on two real ranges; apart from the public calls, which have taken their words apart before they choose.
 ghost use Rattle.std.specs.Prelude.{◌≡◌};
 ghost use Rattle.call.specs.Operation.{number_of};
 ghost use Rattle.word.specs.Member.{Real};
