@@ -20,12 +20,12 @@ pub fn combine(
 ) -> Result<u32, Refusal>
     ensures { Writes (verdict_of_columns n es op left.now right.now row (length lent.old)) row (answers_of n es op left.now right.now) lent.old lent.new result }
 {
-    let (f, op) = judge_columns(n, es, op, left.len(), right.len(), row, lent.len())?;
-    if takes_plain_way(f, op, left, right) {
-        write_plain(f, op, left, right, &mut lent[row..]);
+    let (f, operation) = judge_columns(n, es, op, left.len(), right.len(), row, lent.len())?;
+    if takes_plain_way(f.n, op, left, right) {
+        write_plain(f, operation, left, right, &mut lent[row..]);
         return Ok(left.len() as u32);
     }
     judge_pairs(f, op, left, right)?;
-    write_answers(f, op, left, right, &mut lent[row..]);
+    write_answers(f, operation, left, right, &mut lent[row..]);
     Ok(left.len() as u32)
 }

@@ -62,7 +62,7 @@ fn pack(f: Format, decoded: Decoded) -> u32
                 return 0;
             }
             let x = locate_scaled(f, scale, fraction);
-            with_sign(f, negative, rounded(f, x.pattern, x.exact))
+            with_sign(f.n, negative, rounded(f.n, x.pattern, x.exact))
         }
     }
 }

@@ -35,7 +35,7 @@ fn reading_word(f: Format, low: f64, high: f64) -> u64
     ensures { IsAnswer f.n f.es (Between low high) result }
 {
     let lo = float_cell(f, low, 0);
-    let hi = float_cell(f, high, top_cell(f));
+    let hi = float_cell(f, high, top_cell(f.n));
     word_of(f, Span { lo, hi })
 }
 

@@ -12,7 +12,7 @@ pub fn work(n: u32, es: u32, inputs: &[u64], steps: &[u8], lent: &mut [u64]) -> 
     ensures { Writes (verdict_of_sheet n es inputs.now steps.now (length lent.old)) 0 (rows_of n es inputs.now (steps_of steps.now)) lent.old lent.new result }
 {
     let f = judge_sheet(n, es, inputs.len(), steps.len(), lent.len())?;
-    judge_inputs(f, inputs)?;
+    judge_inputs(f.n, inputs)?;
     let mut rows = Rows::new();
     rows.try_extend_from_slice(inputs).unwrap();
     work_steps(f, steps, &mut rows)?;

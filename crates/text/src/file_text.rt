@@ -6,8 +6,7 @@ use super::inner::lines::{push_refusal, push_rows};
 use super::inner::page::Page;
 use call::refusal::Refusal;
 use file::file::work_file;
-use file::inner::layout::{ES_AT, N_AT};
-use posit::inner::format::Format;
+use file::inner::layout::N_AT;
 use sheet::inner::steps::MOST_ROWS;
 
 // Room for the longest text, 96 lines of 21 bytes.
@@ -20,13 +19,7 @@ fn push_file(file: &[u8], page: &mut Page)
 {
     let mut rows = [0u64; MOST_ROWS];
     match work_file(file, &mut rows) {
-        Ok(count) => {
-            let f = Format {
-                n: u32::from(file[N_AT]),
-                es: u32::from(file[ES_AT]),
-            };
-            push_rows(f, &rows[..count as usize], page)
-        }
+        Ok(count) => push_rows(u32::from(file[N_AT]), &rows[..count as usize], page),
         Err(Refusal { reason, place }) => push_refusal(reason.number(), place, page),
     }
 }

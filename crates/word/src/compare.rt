@@ -13,7 +13,7 @@ pub fn inside(n: u32, es: u32, a: u64, b: u64) -> Result<bool, Refusal>
 {
     let f = Format::new(n, es)?;
     judge_words(f, a, b)?;
-    Ok(cells_inside(f, a, b))
+    Ok(cells_inside(f.n, f.es, a, b))
 }
 
 // Some member is in both.
@@ -22,7 +22,7 @@ pub fn meets(n: u32, es: u32, a: u64, b: u64) -> Result<bool, Refusal>
 {
     let f = Format::new(n, es)?;
     judge_words(f, a, b)?;
-    Ok(cells_meet(f, a, b))
+    Ok(cells_meet(f.n, f.es, a, b))
 }
 
 // Each member of a is less than each of b.
@@ -31,5 +31,5 @@ pub fn below(n: u32, es: u32, a: u64, b: u64) -> Result<bool, Refusal>
 {
     let f = Format::new(n, es)?;
     judge_words(f, a, b)?;
-    Ok(cells_below(f, a, b))
+    Ok(cells_below(f.n, f.es, a, b))
 }

@@ -45,7 +45,11 @@ fn sum_cell(f: Format, p: u32, q: u32) -> u32
     let y = signed_form(f, q);
     match signed_sum(f, x, y) {
         None => power32(f.n) - 1,
-        Some(Signed { negative, size }) => with_sign(f, negative, above_zero(f, step_of(f, size))),
+        Some(Signed { negative, size }) => with_sign(
+            f.n,
+            negative,
+            above_zero(f, step_of(f, size)),
+        ),
     }
 }
 
@@ -78,7 +82,7 @@ fn sum_end(f: Format, x: u32, y: u32) -> u32
     requires { (x ≤ top_cell f.n) × (y ≤ top_cell f.n) }
     ensures { result ≡ sum_end f.n f.es x y }
 {
-    let top = top_cell(f);
+    let top = top_cell(f.n);
     if x == top {
         return top;
     }

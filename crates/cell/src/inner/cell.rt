@@ -22,11 +22,11 @@ fn cell_from(f: Format, pattern: u32, exact: bool) -> u32
 }
 
 // The same cell, or that of the negative.
-pub fn with_sign(f: Format, negative: bool, cell: u32) -> u32
-    requires { cell ≤ top_cell f.n }
-    ensures { result ≡ cell_with_sign f.n negative cell }
+pub fn with_sign(n: u32, negative: bool, cell: u32) -> u32
+    requires { (n ≤ 16) × (cell ≤ top_cell n) }
+    ensures { result ≡ cell_with_sign n negative cell }
 {
-    chosen(negative as u32, cell, top_cell(f) - cell)
+    chosen(negative as u32, cell, top_cell(n) - cell)
 }
 
 // The cell of a number above 0 from its step among the posits.
@@ -42,7 +42,7 @@ pub fn cell_of(f: Format, negative: bool, x: Magnitude) -> u32
     ensures { CellEach f.n f.es negative x result }
 {
     let at = locate(f, x);
-    with_sign(f, negative, cell_from(f, at.pattern, at.exact & !x.lost))
+    with_sign(f.n, negative, cell_from(f, at.pattern, at.exact & !x.lost))
 }
 
 // The posit numbered k, from the lowest finite one up.

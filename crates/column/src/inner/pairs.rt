@@ -11,19 +11,22 @@ use posit::inner::format::Format;
 use range::inner::operate::operate_words;
 use word::inner::judge::judge_word;
 
-// One pair, at a place.
-pub fn judge_pair(f: Format, op: Operation, place: u32, a: u64, b: u64) -> Result<(), Refusal>
-    ensures { Says (first_hit (pair_tests f.n f.es (number_of op) place a b)) result }
+// One pair, at a place; a number that names no operation has no divisor to judge.
+pub fn judge_pair(f: Format, op: u8, place: u32, a: u64, b: u64) -> Result<(), Refusal>
+    ensures { Says (first_hit (pair_tests f.n f.es op place a b)) result }
 {
     judge_word(f, place, a)?;
     judge_word(f, place, b)?;
-    judge_divisor(f, op, place, b)
+    match Operation::try_from(op) {
+        Ok(op) => judge_divisor(f, op, place, b),
+        Err(_) => Ok(()),
+    }
 }
 
 // Every pair, in order; the place is the pair.
-pub fn judge_pairs(f: Format, op: Operation, left: &[u64], right: &[u64]) -> Result<(), Refusal>
+pub fn judge_pairs(f: Format, op: u8, left: &[u64], right: &[u64]) -> Result<(), Refusal>
     requires { (length left.now ≡ length right.now) × (length left.now ≤ 4096) }
-    ensures { Says (first_hit (pairs_tests f.n f.es (number_of op) 0 left.now right.now)) result }
+    ensures { Says (first_hit (pairs_tests f.n f.es op 0 left.now right.now)) result }
 {
     for (i, (a, b)) in left.iter().zip(right).enumerate() {
         judge_pair(f, op, i as u32, *a, *b)?;

@@ -17,25 +17,25 @@ use tiles::inner::spread::{spread_fault, spread_results, spread_sum};
 const FIRST: u64 = 0x8000_0000_0000_0000;
 
 // Whether every left word lies above 0 or across it, and every right one above it: all words are seen, and their faults joined, so that no test steers a jump.
-pub fn all_plain(f: Format, left: &[u64], right: &[u64]) -> bool
-    requires { length left.now ≡ length right.now }
-    ensures { result ≡ all_plain f.n left.now right.now }
+pub fn all_plain(n: u32, left: &[u64], right: &[u64]) -> bool
+    requires { (3 ≤ n) × (n ≤ 16) × (length left.now ≡ length right.now) }
+    ensures { result ≡ all_plain n left.now right.now }
 {
     let mut faults: u64 = 0;
     for (a, b) in left.iter().zip(right) {
-        faults |= spread_fault(f, *a) | plain_fault(f, *b);
+        faults |= spread_fault(n, *a) | plain_fault(n, *b);
     }
     faults < FIRST
 }
 
 // Whether the columns can be answered without a test of each pair; the difference of two ranges above 0 may have either sign.
-pub fn takes_plain_way(f: Format, op: Operation, left: &[u64], right: &[u64]) -> bool
-    requires { length left.now ≡ length right.now }
-    ensures { result ≡ takes_plain_way f.n (number_of op) left.now right.now }
+pub fn takes_plain_way(n: u32, op: u8, left: &[u64], right: &[u64]) -> bool
+    requires { (3 ≤ n) × (n ≤ 16) × (length left.now ≡ length right.now) }
+    ensures { result ≡ takes_plain_way n op left.now right.now }
 {
-    match op {
-        Operation::Subtract => false,
-        Operation::Add | Operation::Multiply | Operation::Divide => all_plain(f, left, right),
+    match Operation::try_from(op) {
+        Ok(Operation::Subtract) => false,
+        _ => all_plain(n, left, right),
     }
 }
 

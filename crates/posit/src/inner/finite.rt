@@ -1,5 +1,4 @@
-// A finite posit other than 0, decoded: sign · fraction · 2^scale with an odd fraction, as small as a posit's is in any format.
-ghost use Rattle.std.specs.Prelude.{◌≡◌, ◌%◌};
+// A finite number other than 0: sign · fraction · 2^scale, as small as a decoded posit's is in any format.
 ghost use Rattle.posit.specs.SmallForm.{SmallForm};
 
 // Scales are counted from 2^-UNIT_BITS, below that of every posit.
@@ -11,5 +10,4 @@ pub struct Finite {
     pub scale: i32,
     pub fraction: u32,
     pub ghost small: { SmallForm scale fraction },
-    pub ghost odd: { fraction % 2 ≡ 1 },
 }

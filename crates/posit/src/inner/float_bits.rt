@@ -1,5 +1,5 @@
 // The bits of 64-bit floats: a sign, eleven exponent bits and fifty-two fraction bits.
-ghost use Rattle.std.specs.Prelude.{◌≡◌, ◌^◌, ◌<◌, from_bits};
+ghost use Rattle.std.specs.Prelude.{◌≡◌, ◌%◌, ◌^◌, ◌<◌, from_bits};
 ghost use Rattle.std.specs.Float.{fin, binary64};
 ghost use Rattle.posit.specs.Floats.{FromFloat, PartsOfFloat, of_digits};
 ghost use Rattle.posit.specs.Magnitudes.{Knows};
@@ -102,8 +102,9 @@ pub fn from_pattern(f: Format, bits: u64) -> u32
     }
 }
 
-// The float that is exactly x.
+// The float that is exactly x, whose fraction is odd.
 pub fn float_of(x: Finite) -> f64
+    requires { x.fraction % 2 ≡ 1 }
     ensures { result ≡ fin x.negative x.fraction x.scale }
 {
     let h = highest_bit(x.fraction as u64);

@@ -20,11 +20,12 @@ pub const MOST_ROWS: usize = MOST_INPUTS + MOST_STEPS;
 // The rows of a sheet worked so far.
 pub type Rows = ArrayVec<u64, MOST_ROWS>;
 
-// Every input, in order; the place is the row.
-pub fn judge_inputs(f: Format, inputs: &[u64]) -> Result<(), Refusal>
-    requires { length inputs.now ≤ 32 }
-    ensures { Says (first_hit (inputs_tests f.n 0 inputs.now)) result }
+// Every input, in order; the place is the row. A word is judged by the width alone, so that any exponent size serves.
+pub fn judge_inputs(n: u32, inputs: &[u64]) -> Result<(), Refusal>
+    requires { (3 ≤ n) × (n ≤ 16) × (length inputs.now ≤ 32) }
+    ensures { Says (first_hit (inputs_tests n 0 inputs.now)) result }
 {
+    let f = Format { n, es: 0 };
     for (i, word) in inputs.iter().enumerate() {
         judge_word(f, i as u32, *word)?;
     }

@@ -19,7 +19,7 @@ fn quotients(f: Format, x: Span, y: Span) -> Span
     ensures { result ≡ quotient_cells f.n f.es x y }
 {
     let signed = signed_results::<Quotient>(f, x, y);
-    let zero = zero_if(f, has_zero(f, x), has_other(f, y));
+    let zero = zero_if(f.n, has_zero(f, x), has_other(f.n, y));
     hull(signed, zero)
 }
 
@@ -28,10 +28,10 @@ fn some_quotients(f: Format, x: Span, y: Span) -> Span
     requires { (RealCells f.n x) × (RealCells f.n y) × (x.lo ≤ x.hi) × (y.lo ≤ y.hi) }
     ensures { result ≡ quotient_cells f.n f.es x y }
 {
-    if have_one_sign(f, x, y) {
+    if have_one_sign(f.n, x, y) {
         return one_sign_results::<Quotient>(f, x, y);
     }
-    if is_mixed_by(f, x, y) {
+    if is_mixed_by(f.n, x, y) {
         return mixed_results::<Quotient>(f, x, y);
     }
     quotients(f, x, y)

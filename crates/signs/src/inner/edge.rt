@@ -35,7 +35,7 @@ pub fn end_edge(f: Format, cell: u32) -> Edge
     ensures { result ≡ Spec.end_edge f.n cell }
 {
     Edge {
-        unlimited: cell == top_cell(f),
+        unlimited: cell == top_cell(f.n),
         closed: cell % 2 == 1,
         posit: (cell + 2 - power32(f.n)) / 2,
     }

@@ -15,18 +15,20 @@ use posit::inner::power::power32;
 use word::inner::span::{Span, top_cell};
 
 // Whether there are members above 0 and below it.
-pub fn is_mixed(f: Format, s: Span) -> bool
-    ensures { result ≡ is_mixed f.n s }
+pub fn is_mixed(n: u32, s: Span) -> bool
+    requires { n ≤ 16 }
+    ensures { result ≡ is_mixed n s }
 {
-    let first = power32(f.n);
+    let first = power32(n);
     first <= s.hi && s.lo < first - 1
 }
 
 // Whether that holds of x, and y has one sign.
-pub fn is_mixed_by(f: Format, x: Span, y: Span) -> bool
-    ensures { result ≡ is_mixed_by f.n x y }
+pub fn is_mixed_by(n: u32, x: Span, y: Span) -> bool
+    requires { n ≤ 16 }
+    ensures { result ≡ is_mixed_by n x y }
 {
-    is_mixed(f, x) && has_one_sign(f, y)
+    is_mixed(n, x) && has_one_sign(n, y)
 }
 
 // From the negative of one cell up to the other, turned round where y is below 0.
@@ -34,8 +36,8 @@ fn around(f: Format, y: Span, below: u32, above: u32) -> Span
     requires { (below ≤ top_cell f.n) × (above ≤ top_cell f.n) }
     ensures { result ≡ Spec.around f.n y below above }
 {
-    let top = top_cell(f);
-    if is_above(f, y) {
+    let top = top_cell(f.n);
+    if is_above(f.n, y) {
         return Span {
             lo: top - below,
             hi: above,
@@ -52,8 +54,8 @@ pub fn mixed_results<S: Scaling>(f: Format, x: Span, y: Span) -> Span
     requires { (Mixed f.n x) × (OneSign f.n y) }
     ensures { result ≡ result_cells f.n f.es S.divides x y }
 {
-    let last = S::last_edge(f, magnitudes(f, y));
-    let below = last_cell::<S>(f, end_edge(f, top_cell(f) - x.lo), last);
+    let last = S::last_edge(f, magnitudes(f.n, y));
+    let below = last_cell::<S>(f, end_edge(f, top_cell(f.n) - x.lo), last);
     let above = last_cell::<S>(f, end_edge(f, x.hi), last);
     around(f, y, below, above)
 }

@@ -19,8 +19,8 @@ fn products(f: Format, x: Span, y: Span) -> Span
     ensures { result ≡ product_cells f.n f.es x y }
 {
     let signed = signed_results::<Product>(f, x, y);
-    let left = zero_if(f, has_zero(f, x), has_other(f, y));
-    let right = zero_if(f, x.lo <= x.hi, has_zero(f, y));
+    let left = zero_if(f.n, has_zero(f, x), has_other(f.n, y));
+    let right = zero_if(f.n, x.lo <= x.hi, has_zero(f, y));
     hull(hull(signed, left), right)
 }
 
@@ -29,13 +29,13 @@ fn some_products(f: Format, x: Span, y: Span) -> Span
     requires { (RealCells f.n x) × (RealCells f.n y) × (x.lo ≤ x.hi) × (y.lo ≤ y.hi) }
     ensures { result ≡ product_cells f.n f.es x y }
 {
-    if have_one_sign(f, x, y) {
+    if have_one_sign(f.n, x, y) {
         return one_sign_results::<Product>(f, x, y);
     }
-    if is_mixed_by(f, x, y) {
+    if is_mixed_by(f.n, x, y) {
         return mixed_results::<Product>(f, x, y);
     }
-    if is_mixed_by(f, y, x) {
+    if is_mixed_by(f.n, y, x) {
         return mixed_results::<Product>(f, y, x);
     }
     products(f, x, y)

@@ -13,36 +13,39 @@ use posit::inner::power::power32;
 use word::inner::span::{Span, mirror};
 
 // Whether all members are above 0.
-pub fn is_above(f: Format, s: Span) -> bool
-    ensures { result ≡ is_above f.n s }
+pub fn is_above(n: u32, s: Span) -> bool
+    requires { n ≤ 16 }
+    ensures { result ≡ is_above n s }
 {
-    power32(f.n) <= s.lo
+    power32(n) <= s.lo
 }
 
 // Whether all members are above 0 or all are below.
-pub fn has_one_sign(f: Format, s: Span) -> bool
-    ensures { result ≡ has_one_sign f.n s }
+pub fn has_one_sign(n: u32, s: Span) -> bool
+    requires { n ≤ 16 }
+    ensures { result ≡ has_one_sign n s }
 {
-    let first = power32(f.n);
+    let first = power32(n);
     first <= s.lo || s.hi < first - 1
 }
 
 // Whether that holds of both operands.
-pub fn have_one_sign(f: Format, x: Span, y: Span) -> bool
-    ensures { result ≡ (has_one_sign f.n x && has_one_sign f.n y) }
+pub fn have_one_sign(n: u32, x: Span, y: Span) -> bool
+    requires { n ≤ 16 }
+    ensures { result ≡ (has_one_sign n x && has_one_sign n y) }
 {
-    has_one_sign(f, x) && has_one_sign(f, y)
+    has_one_sign(n, x) && has_one_sign(n, y)
 }
 
 // The cells of the magnitudes.
-pub fn magnitudes(f: Format, s: Span) -> Span
-    requires { OneSign f.n s }
-    ensures { result ≡ Spec.magnitudes f.n s }
+pub fn magnitudes(n: u32, s: Span) -> Span
+    requires { (n ≤ 16) × (OneSign n s) }
+    ensures { result ≡ Spec.magnitudes n s }
 {
-    if is_above(f, s) {
+    if is_above(n, s) {
         return s;
     }
-    mirror(f, s)
+    mirror(n, s)
 }
 
 // The results of x and y from those of their magnitudes: turned round where one of the two is below 0.
@@ -50,10 +53,10 @@ fn with_signs(f: Format, x: Span, y: Span, s: Span) -> Span
     requires { Cells f.n s }
     ensures { result ≡ with_signs f.n x y s }
 {
-    if is_above(f, x) == is_above(f, y) {
+    if is_above(f.n, x) == is_above(f.n, y) {
         return s;
     }
-    turned_cells(f, s)
+    turned_cells(f.n, s)
 }
 
 // The cells of all results.
@@ -65,6 +68,6 @@ pub fn one_sign_results<S: Scaling>(f: Format, x: Span, y: Span) -> Span
         f,
         x,
         y,
-        results_above::<S>(f, magnitudes(f, x), magnitudes(f, y)),
+        results_above::<S>(f, magnitudes(f.n, x), magnitudes(f.n, y)),
     )
 }

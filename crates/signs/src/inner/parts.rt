@@ -31,7 +31,7 @@ pub fn last_cell<S: Scaling>(f: Format, x: Edge, y: Edge) -> u32
     ensures { result ≡ last_cell f.n f.es S.divides x y }
 {
     if x.unlimited || y.unlimited {
-        return top_cell(f);
+        return top_cell(f.n);
     }
     let cell = S::cell(f, x.posit, y.posit);
     chosen(u32::from(x.closed & y.closed), 2 * (cell / 2), cell)
@@ -53,12 +53,12 @@ pub fn positive_results<S: Scaling>(f: Format, p: Span, q: Span) -> Span
     requires { (PartAbove f.n p) × (PartAbove f.n q) }
     ensures { result ≡ positive_results f.n f.es S.divides p q }
 {
-    let top = top_cell(f);
+    let top = top_cell(f.n);
     if top < p.lo {
-        return no_cells(f);
+        return no_cells(f.n);
     }
     if top < q.lo {
-        return no_cells(f);
+        return no_cells(f.n);
     }
     results_above::<S>(f, p, q)
 }

@@ -16,7 +16,7 @@ fn part_above(f: Format, s: Span) -> Span
     let first = power32(f.n);
     let hi = s.hi;
     if hi < first {
-        return no_cells(f);
+        return no_cells(f.n);
     }
     Span {
         lo: s.lo.max(first),
@@ -35,15 +35,15 @@ pub fn hull(a: Span, b: Span) -> Span
 }
 
 // The cells of the negatives.
-pub fn turned_cells(f: Format, s: Span) -> Span
-    requires { Cells f.n s }
-    ensures { result ≡ turned_cells f.n s }
+pub fn turned_cells(n: u32, s: Span) -> Span
+    requires { (n ≤ 16) × (Cells n s) }
+    ensures { result ≡ turned_cells n s }
 {
-    let top = top_cell(f);
+    let top = top_cell(n);
     let lo = s.lo;
     let hi = s.hi;
     if top < lo {
-        return no_cells(f);
+        return no_cells(n);
     }
     Span {
         lo: top - hi,
@@ -58,7 +58,7 @@ fn either_sign<S: Scaling>(f: Format, p: Span, above: Span, below: Span) -> Span
 {
     let direct = positive_results::<S>(f, p, above);
     let across = positive_results::<S>(f, p, below);
-    hull(direct, turned_cells(f, across))
+    hull(direct, turned_cells(f.n, across))
 }
 
 // The results of the members other than 0.
@@ -67,10 +67,10 @@ pub fn signed_results<S: Scaling>(f: Format, a: Span, b: Span) -> Span
     ensures { result ≡ signed_results f.n f.es S.divides a b }
 {
     let above = part_above(f, b);
-    let below = part_above(f, mirror(f, b));
+    let below = part_above(f, mirror(f.n, b));
     let direct = either_sign::<S>(f, part_above(f, a), above, below);
-    let across = either_sign::<S>(f, part_above(f, mirror(f, a)), above, below);
-    hull(direct, turned_cells(f, across))
+    let across = either_sign::<S>(f, part_above(f, mirror(f.n, a)), above, below);
+    hull(direct, turned_cells(f.n, across))
 }
 
 // Whether 0 is a member.
@@ -82,23 +82,25 @@ pub fn has_zero(f: Format, s: Span) -> bool
 }
 
 // Whether a number other than 0 is.
-pub fn has_other(f: Format, s: Span) -> bool
-    ensures { result ≡ has_other f.n s }
+pub fn has_other(n: u32, s: Span) -> bool
+    requires { n ≤ 16 }
+    ensures { result ≡ has_other n s }
 {
-    let first = power32(f.n);
+    let first = power32(n);
     first <= s.hi || s.lo < first - 1
 }
 
 // The cell of 0, if there is a member for each operand.
-pub fn zero_if(f: Format, left: bool, right: bool) -> Span
-    ensures { result ≡ zero_if f.n left right }
+pub fn zero_if(n: u32, left: bool, right: bool) -> Span
+    requires { n ≤ 16 }
+    ensures { result ≡ zero_if n left right }
 {
     if left {
         if right {
-            let zero = power32(f.n) - 1;
+            let zero = power32(n) - 1;
             return Span { lo: zero, hi: zero };
         }
-        return no_cells(f);
+        return no_cells(n);
     }
-    no_cells(f)
+    no_cells(n)
 }

@@ -4,17 +4,16 @@ ghost use Rattle.text.specs.Text.{digit, mark_byte, decimal, field, end_fields, 
 
 use super::page::Page;
 use itoa::Buffer;
-use posit::inner::format::Format;
 use posit::inner::power::power;
 
 const HEX_DIGITS: u64 = 16;
 
 // A hexadecimal digit.
-pub fn hex_digit(d: u32) -> char
+pub fn hex_digit(d: u64) -> char
     requires { d < 16 }
     ensures { result ≡ digit d }
 {
-    char::from_digit(d, 16).unwrap()
+    char::from_digit(d as u32, 16).unwrap()
 }
 
 // Closed or open.
@@ -42,18 +41,18 @@ pub fn push_end(tile: u64, page: &mut Page)
     let posit = tile / 2;
     page.push(' ');
     for worth in [4096, 256, 16, 1] {
-        page.push(hex_digit((posit / worth % HEX_DIGITS) as u32));
+        page.push(hex_digit(posit / worth % HEX_DIGITS));
     }
     page.push(' ');
     page.push(mark_letter(tile % 2));
 }
 
 // Both ends of a range, a space before each field.
-pub fn push_ends(f: Format, word: u64, page: &mut Page)
-    requires { length page.old.bytes + 14 ≤ 2048 }
-    ensures { page.new.bytes ≡ page.old.bytes ++ range_fields f.n word }
+pub fn push_ends(n: u32, word: u64, page: &mut Page)
+    requires { (n ≤ 16) × (length page.old.bytes + 14 ≤ 2048) }
+    ensures { page.new.bytes ≡ page.old.bytes ++ range_fields n word }
 {
-    let tiles = power(f.n + 1);
+    let tiles = power(n + 1);
     push_end(word / tiles, page);
     push_end(word % tiles, page);
 }

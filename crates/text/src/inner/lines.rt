@@ -4,26 +4,25 @@ ghost use Rattle.text.specs.Text.{row_line, row_lines, refusal_line};
 
 use super::fields::{push_ends, push_number};
 use super::page::Page;
-use posit::inner::format::Format;
 
 // The line of one row.
-pub fn push_row(f: Format, row: u32, word: u64, page: &mut Page)
-    requires { (row < 100) × (length page.old.bytes + 21 ≤ 2048) }
-    ensures { page.new.bytes ≡ page.old.bytes ++ row_line f.n row word }
+pub fn push_row(n: u32, row: u32, word: u64, page: &mut Page)
+    requires { (n ≤ 16) × (row < 100) × (length page.old.bytes + 21 ≤ 2048) }
+    ensures { page.new.bytes ≡ page.old.bytes ++ row_line n row word }
 {
     page.push_str("ROW");
     push_number(row, page);
-    push_ends(f, word, page);
+    push_ends(n, word, page);
     page.push('\n');
 }
 
 // The lines of all rows.
-pub fn push_rows(f: Format, rows: &[u64], page: &mut Page)
-    requires { (length rows.now ≤ 96) × (length page.old.bytes + 21 * length rows.now ≤ 2048) }
-    ensures { page.new.bytes ≡ page.old.bytes ++ row_lines f.n 0 rows.now }
+pub fn push_rows(n: u32, rows: &[u64], page: &mut Page)
+    requires { (n ≤ 16) × (length rows.now ≤ 96) × (length page.old.bytes + 21 * length rows.now ≤ 2048) }
+    ensures { page.new.bytes ≡ page.old.bytes ++ row_lines n 0 rows.now }
 {
     for (row, word) in rows.iter().enumerate() {
-        push_row(f, row as u32, *word, page);
+        push_row(n, row as u32, *word, page);
     }
 }
 

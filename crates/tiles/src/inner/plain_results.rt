@@ -30,11 +30,11 @@ fn start_tile_from(f: Format, s: u32, t: u32, cell: u32) -> u32
 }
 
 // The end tile of the results up to the tiles s and t: beyond a gap it stands on the next posit.
-fn end_tile_from(f: Format, s: u32, t: u32, cell: u32) -> u32
-    requires { (2 ^ f.n ≤ cell) × (cell ≤ top_cell f.n) }
-    ensures { result ≡ end_tile_at f.n (chosen_by ((1 - s % 2) * (1 - t % 2)) (2 * (cell / 2)) cell) }
+pub fn end_tile_from(n: u32, s: u32, t: u32, cell: u32) -> u32
+    requires { (3 ≤ n) × (n ≤ 16) × (2 ^ n ≤ cell) × (cell ≤ top_cell n) }
+    ensures { result ≡ end_tile_at n (chosen_by ((1 - s % 2) * (1 - t % 2)) (2 * (cell / 2)) cell) }
 {
-    let step = cell + 1 - power32(f.n);
+    let step = cell + 1 - power32(n);
     let open = (s | t) % 2;
     (step + 2 * (step % 2)) | open
 }
@@ -58,7 +58,7 @@ pub fn sum_end_tile(f: Format, u: u32, v: u32) -> u32
     requires { (PlainEnd f.n u) × (PlainEnd f.n v) }
     ensures { result ≡ end_tile_at f.n (sum_end f.n f.es (end_cell f.n u) (end_cell f.n v)) }
 {
-    end_tile_from(f, u, v, total_cell(f, u / 2, v / 2))
+    end_tile_from(f.n, u, v, total_cell(f, u / 2, v / 2))
 }
 
 // The start tile of the products or quotients from the tile s and the right word's tile t on: an open 0 where either is.
@@ -82,7 +82,7 @@ pub fn results_end<S: Scaling>(f: Format, u: u32, t: u32) -> u32
     if t == OPEN_ZERO {
         return power32(f.n) + 1;
     }
-    end_tile_from(f, u, t, S::cell(f, u / 2, t / 2))
+    end_tile_from(f.n, u, t, S::cell(f, u / 2, t / 2))
 }
 
 // The products or quotients of two words: a product goes from both starts to both ends, a quotient from the start over the end to the end over the start.

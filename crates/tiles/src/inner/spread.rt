@@ -17,11 +17,12 @@ use word::inner::word::{end_tile, start_tile};
 
 // Below 2^63 exactly where a word is a range above 0 or across it, with limits. The start is counted from 0 with a sign; the numbers joined say, in this order, that
 // the end lies behind 0, not before the start, that the start stands at neither tile of NaR, nor at a closed 0, and that the end lies before NaR.
-pub fn spread_fault(f: Format, w: u64) -> u64
-    ensures { nat_lt result (2 ^ 63) ≡ is_spread f.n w }
+pub fn spread_fault(n: u32, w: u64) -> u64
+    requires { (3 ≤ n) × (n ≤ 16) }
+    ensures { nat_lt result (2 ^ 63) ≡ is_spread n w }
 {
-    let half = power(f.n);
-    let all = power(f.n + 1);
+    let half = power(n);
+    let all = power(n + 1);
     let tile = w / all;
     let start = (tile ^ half).wrapping_sub(half);
     let open = w % 2;
@@ -31,7 +32,7 @@ pub fn spread_fault(f: Format, w: u64) -> u64
         | end.wrapping_sub(start)
         | start.wrapping_add(half - 2)
         | tile.wrapping_sub(1)
-        | (w << (FIRST_PLACE - f.n))
+        | (w << (FIRST_PLACE - n))
 }
 
 // Whether the start lies below 0: the first bit of its tile is its posit's sign.

@@ -12,7 +12,7 @@ use posit::inner::format::Format;
 pub fn judge_word(f: Format, place: u32, a: u64) -> Result<(), Refusal>
     ensures { Says (verdict_of_word f.n place a) result }
 {
-    match take_word(f, a) {
+    match take_word(f.n, a) {
         Ok(_) => Ok(()),
         Err(reason) => Err(reason.at(place)),
     }

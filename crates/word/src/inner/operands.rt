@@ -11,8 +11,8 @@ use posit::inner::format::Format;
 pub fn take_words(f: Format, a: u64, b: u64) -> Result<(Span, Span), Refusal>
     ensures { TakesBoth f.n a b result }
 {
-    let left = take_word(f, a)?;
-    match take_word(f, b) {
+    let left = take_word(f.n, a)?;
+    match take_word(f.n, b) {
         Ok(right) => Ok((left, right)),
         Err(reason) => Err(reason.at(RIGHT)),
     }

@@ -14,17 +14,19 @@ pub struct Span {
 }
 
 // The gap above the largest posit.
-pub fn top_cell(f: Format) -> u32
-    ensures { result ≡ top_cell f.n }
+pub fn top_cell(n: u32) -> u32
+    requires { n ≤ 16 }
+    ensures { result ≡ top_cell n }
 {
-    2 * power32(f.n) - 2
+    2 * power32(n) - 2
 }
 
-pub fn no_cells(f: Format) -> Span
-    ensures { result ≡ no_cells f.n }
+pub fn no_cells(n: u32) -> Span
+    requires { n ≤ 16 }
+    ensures { result ≡ no_cells n }
 {
     Span {
-        lo: top_cell(f) + 1,
+        lo: top_cell(n) + 1,
         hi: 0,
     }
 }
@@ -93,14 +95,14 @@ pub fn word_of(f: Format, s: Span) -> u64
 }
 
 // The cells of the negatives.
-pub fn mirror(f: Format, s: Span) -> Span
-    requires { Cells f.n s }
-    ensures { result ≡ mirrored f.n s }
+pub fn mirror(n: u32, s: Span) -> Span
+    requires { (n ≤ 16) × (Cells n s) }
+    ensures { result ≡ mirrored n s }
 {
     if s.hi < s.lo {
-        return no_cells(f);
+        return no_cells(n);
     }
-    let top = top_cell(f);
+    let top = top_cell(n);
     Span {
         lo: top - s.hi,
         hi: top - s.lo,

@@ -1,5 +1,5 @@
 // A range word taken apart.
-ghost use Rattle.std.specs.Prelude.{◌≡◌, ◌<◌};
+ghost use Rattle.std.specs.Prelude.{◌≡◌, ◌<◌, ◌≤◌};
 ghost use Rattle.word.specs.Word.{words, start_tile, end_tile};
 ghost use Rattle.word.specs.Member.{Real};
 ghost use Rattle.word.specs.Spans.{cells_of};
@@ -24,16 +24,19 @@ pub fn end_tile(f: Format, w: u64) -> u32
     (w % power(f.n + 1)) as u32
 }
 
-// A word whose last cell comes before its first is empty where both its tiles are the same, and holds infinity where they are not.
-pub fn take_word(f: Format, w: u64) -> Result<Span, Reason>
-    ensures { TakesWord f.n w result }
+// A word whose last cell comes before its first is empty where both its tiles are the same, and holds infinity where they are not. Its cells hang on the
+// width alone, so that any exponent size serves.
+pub fn take_word(n: u32, w: u64) -> Result<Span, Reason>
+    requires { (3 ≤ n) × (n ≤ 16) }
+    ensures { TakesWord n w result }
 {
-    if power(2 * f.n + 2) <= w {
+    let f = Format { n, es: 0 };
+    if power(2 * n + 2) <= w {
         return Err(Reason::TooLarge);
     }
     let start = start_tile(f, w);
     let end = end_tile(f, w);
-    let closed_nar = power32(f.n);
+    let closed_nar = power32(n);
     if start == closed_nar || end == closed_nar {
         return Err(Reason::HoldsInfinity);
     }
@@ -43,7 +46,7 @@ pub fn take_word(f: Format, w: u64) -> Result<Span, Reason>
         return Ok(Span { lo, hi });
     }
     if start == end {
-        return Ok(no_cells(f));
+        return Ok(no_cells(n));
     }
     Err(Reason::HoldsInfinity)
 }
@@ -58,5 +61,5 @@ pub fn cells_of(f: Format, w: u64) -> Span
     if lo <= hi {
         return Span { lo, hi };
     }
-    no_cells(f)
+    no_cells(f.n)
 }

@@ -2,7 +2,6 @@
 -- which passes every test of a pair, and the part from the row on is written.
 use Rattle.std.proofs.Common.{◌≡◌, List, ◌++◌, ℕ, ◌-◌, sym, ap, ◌∙◌, length, take, drop, arith}
 use lib.ListN.{length-take, length-drop}
-use Rattle.call.specs.Operation.{number_of}
 use Rattle.std.specs.Prelude.{Ok}
 use Rattle.call.specs.Written.{Writes, overwritten}
 use Rattle.call.proofs.Answered.{passes_on, accepts}
@@ -58,7 +57,7 @@ returns-in_err-f c =
     record { count = passes_on _ _ _ c.from_residual.ensures v; later = later_refused _ a.row _ a.lent.now v }
 
 pub takes_plain_way-requires : goal.takes_plain_way-requires
-takes_plain_way-requires c = (fit (goal.at.takes_plain_way-requires c).In_ok-f).as_long
+takes_plain_way-requires c = (c.in_ok-f.f.wide_enough, c.in_ok-f.f.not_too_wide, (fit (goal.at.takes_plain_way-requires c).In_ok-f).as_long)
 
 pub offset_bounds-lent-row : goal.offset_bounds-lent-row
 offset_bounds-lent-row c =
@@ -75,6 +74,9 @@ write_plain-requires-clause-fits c =
     let f = fit (goal.at.write_plain-requires-clause-fits c).In_ok-f in
     (f.as_long, simp (length-take, length-drop) (omega (arith, f.room)))
 
+pub write_plain-requires-clause-plain : goal.write_plain-requires-clause-plain
+write_plain-requires-clause-plain c = rw (← c.in_ok-f.ensures.1.operation_is) (sym c.if-takes_plain_way.ensures)
+
 pub overflow_cast-result : goal.overflow_cast-result
 overflow_cast-result c = record { fits = omega (arith, (fit (goal.at.overflow_cast-result c).In_ok-f).short) }
 
@@ -83,9 +85,8 @@ returns-then-takes_plain_way c =
     let a = c.args in
     let k = c.in_ok-f.ensures.1 in
     let f = c.in_ok-f.f in
-    let op = number_of c.in_ok-f.op in
     written a.n a.es a.op a.left.now a.right.now a.row a.lent.now (limits_passed (goal.at.returns-then-takes_plain_way c).In_ok-f)
-    (rw (k.format_is.0, k.format_is.1, k.operation_is) (plain_passes (within f) op 0 a.left.now a.right.now (way_plain f.n op a.left.now a.right.now (sym c.if-takes_plain_way.ensures))))
+    (rw (k.format_is.0, k.format_is.1) (plain_passes (within f) a.op 0 a.left.now a.right.now (way_plain f.n a.op a.left.now a.right.now (sym c.if-takes_plain_way.ensures))))
     (rw (k.format_is.0, k.format_is.1, k.operation_is) c.write_plain.ensures)
 
 pub judge_pairs-requires : goal.judge_pairs-requires
@@ -97,7 +98,7 @@ returns-in_err-judge_pairs c =
     let a = c.args in
     let k = c.in_ok-f.ensures.1 in
     let v = refused_next (limits_passed (goal.at.returns-in_err-judge_pairs c).In_ok-f) (pairs_tests a.n a.es a.op 0 a.left.now a.right.now)
-    (rw (k.format_is.0, k.format_is.1, k.operation_is) c.in_err-judge_pairs.ensures) in
+    (rw (k.format_is.0, k.format_is.1) c.in_err-judge_pairs.ensures) in
     record { count = passes_on _ _ _ c.from_residual-in_err-judge_pairs.ensures v; later = later_refused _ a.row _ a.lent.now v }
 
 pub offset_bounds-lent-row-2 : goal.offset_bounds-lent-row-2
@@ -115,6 +116,9 @@ write_answers-requires-clause-fits c =
     let f = fit (goal.at.write_answers-requires-clause-fits c).In_ok-f in
     (f.as_long, simp (length-take, length-drop) (omega (arith, f.room)))
 
+pub write_answers-requires-clause-passes : goal.write_answers-requires-clause-passes
+write_answers-requires-clause-passes c = rw (← c.in_ok-f.ensures.1.operation_is) c.in_ok-judge_pairs.ensures.0
+
 pub overflow_cast-result-2 : goal.overflow_cast-result-2
 overflow_cast-result-2 c = record { fits = omega (arith, (fit (goal.at.overflow_cast-result-2 c).In_ok-f).short) }
 
@@ -123,7 +127,6 @@ returns c =
     let a = c.args in
     let k = c.in_ok-f.ensures.1 in
     let f = c.in_ok-f.f in
-    let op = number_of c.in_ok-f.op in
     written a.n a.es a.op a.left.now a.right.now a.row a.lent.now (limits_passed (goal.at.returns c).In_ok-f)
-    (rw (k.format_is.0, k.format_is.1, k.operation_is) (passing_of (pairs_refusing f.n f.es op 0 a.left.now a.right.now) (accepts c.in_ok-judge_pairs.ensures.0)))
+    (rw (k.format_is.0, k.format_is.1) (passing_of (pairs_refusing f.n f.es a.op 0 a.left.now a.right.now) (accepts c.in_ok-judge_pairs.ensures.0)))
     (rw (k.format_is.0, k.format_is.1, k.operation_is) c.write_answers.ensures)

@@ -38,7 +38,7 @@ returns-in_err-f c =
     record { count = passes_on _ _ _ c.from_residual.ensures v; later = later_refused _ 0 _ a.lent.now v }
 
 pub judge_inputs-requires : goal.judge_inputs-requires
-judge_inputs-requires c = (fit (goal.at.judge_inputs-requires c).In_ok-f).few_inputs
+judge_inputs-requires c = (c.in_ok-f.f.wide_enough, c.in_ok-f.f.not_too_wide, (fit (goal.at.judge_inputs-requires c).In_ok-f).few_inputs)
 
 pub returns-in_err-judge_inputs : goal.returns-in_err-judge_inputs
 unfolding verdict_of_sheet

@@ -24,23 +24,11 @@ module _ (c : In-Ok) where
 pub bounds-file-5 : goal.bounds-file-5
 bounds-file-5 c = omega (arith, (fits (goal.at.bounds-file-5 c).In-Ok).head)
 
-pub bounds-file-6 : goal.bounds-file-6
-bounds-file-6 c = omega (arith, (fits (goal.at.bounds-file-6 c).In-Ok).head)
-
-pub invariant_of-f : goal.invariant_of-f
-invariant_of-f c =
-    let f = (fits (goal.at.invariant_of-f c).In-Ok).format in
-    record {
-      wide_enough = subst (λ (n : ℕ). 3 ≤ n) (sym c.from.ensures) f.wide_enough;
-      not_too_wide = subst (λ (n : ℕ). n ≤ 16) (sym c.from.ensures) f.not_too_wide;
-      exponent_fits = subst (λ (es : ℕ). es ≤ 2) (sym c.from-in-Ok.ensures) f.exponent_fits;
-    }
-
 pub push_rows-requires : goal.push_rows-requires
 push_rows-requires c =
     let e = (goal.at.push_rows-requires c).In-Ok in
     let few = few_rows c.args.file.now (done e) in
-    (omega (arith, few, ap length (front e)), omega (arith, few, ap length (front e), c.requires))
+    (omega (arith, c.from.ensures, (fits e).format.not_too_wide), omega (arith, few, ap length (front e)), omega (arith, few, ap length (front e), c.requires))
 
 pub returns-in-Ok : goal.returns-in-Ok
 returns-in-Ok c =

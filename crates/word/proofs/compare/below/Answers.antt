@@ -12,7 +12,9 @@ returns-in_err-judge_words c =
     passes_on _ _ _ c.from_residual-in_err-judge_words.ensures (comparison_refused Below _ _ c.in_ok-f.f c.in_ok-f.ensures _ c.in_err-judge_words.ensures)
 
 pub cells_below-requires : goal.cells_below-requires
-cells_below-requires c = words_real c.in_ok-f.f.n c.args.a c.args.b c.in_ok-judge_words.ensures.0
+cells_below-requires c =
+    let real = words_real c.in_ok-f.f.n c.args.a c.args.b c.in_ok-judge_words.ensures.0 in
+    (c.in_ok-f.f.wide_enough, c.in_ok-f.f.not_too_wide, real.0, real.1)
 
 pub returns : goal.returns
 returns c = comparison_done Below _ _ c.in_ok-f.f c.in_ok-f.ensures c.in_ok-judge_words.ensures.0 c.cells_below.ensures

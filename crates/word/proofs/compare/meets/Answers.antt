@@ -12,7 +12,9 @@ returns-in_err-judge_words c =
     passes_on _ _ _ c.from_residual-in_err-judge_words.ensures (comparison_refused Meets _ _ c.in_ok-f.f c.in_ok-f.ensures _ c.in_err-judge_words.ensures)
 
 pub cells_meet-requires : goal.cells_meet-requires
-cells_meet-requires c = words_real c.in_ok-f.f.n c.args.a c.args.b c.in_ok-judge_words.ensures.0
+cells_meet-requires c =
+    let real = words_real c.in_ok-f.f.n c.args.a c.args.b c.in_ok-judge_words.ensures.0 in
+    (c.in_ok-f.f.wide_enough, c.in_ok-f.f.not_too_wide, real.0, real.1)
 
 pub returns : goal.returns
 returns c = comparison_done Meets _ _ c.in_ok-f.f c.in_ok-f.ensures c.in_ok-judge_words.ensures.0 c.cells_meet.ensures

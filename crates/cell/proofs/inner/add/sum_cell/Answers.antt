@@ -24,7 +24,7 @@ pub above_zero-requires : goal.above_zero-requires
 above_zero-requires c = something_fits (within c.args.f) _ c.signed_sum.ensures c.in-Some.is c.step_of.ensures
 
 pub with_sign-requires : goal.with_sign-requires
-with_sign-requires c = something_small (within c.args.f) _ c.signed_sum.ensures c.in-Some.is c.step_of.ensures c.above_zero.ensures
+with_sign-requires c = (c.args.f.not_too_wide, something_small (within c.args.f) _ c.signed_sum.ensures c.in-Some.is c.step_of.ensures c.above_zero.ensures)
 
 pub returns-in-None : goal.returns-in-None
 returns-in-None c = nothing_cell _ _ c.args.f.wide_enough _ c.signed_sum.ensures c.in-None.is c.power32.ensures

@@ -8,7 +8,7 @@ pub cell_from-requires : goal.cell_from-requires
 cell_from-requires c = pattern_fits (within c.args.f) c.args.x c.locate-at.ensures
 
 pub with_sign-requires : goal.with_sign-requires
-with_sign-requires c = from_fits_as (within c.args.f) c.args.x c.locate-at.ensures _ c.cell_from.ensures
+with_sign-requires c = (c.args.f.not_too_wide, from_fits_as (within c.args.f) c.args.x c.locate-at.ensures _ c.cell_from.ensures)
 
 pub returns : goal.returns
 returns c =

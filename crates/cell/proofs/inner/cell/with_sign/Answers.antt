@@ -6,4 +6,4 @@ pub chosen-requires : goal.chosen-requires
 chosen-requires c = mark_fits c.args.negative
 
 pub returns : goal.returns
-returns c = gives_sign c.args.f.n c.args.cell c.args.negative c.top_cell.ensures c.chosen.ensures
+returns c = gives_sign c.args.n c.args.cell c.args.negative c.top_cell.ensures c.chosen.ensures

@@ -4,4 +4,4 @@ use Rattle.column.specs.Plains.{all_plain}
 use Rattle.column.proofs.inner.plains.all_plain.Given as goal
 
 abbrev pub invariant-loop-a : goal.invariant-loop-a
-invariant-loop-a l = all_plain l.f.n l.left l.right ≡ (ltb l.faults (2 ^ 63) && all_plain l.f.n (drop (length l.yielded) l.left) (drop (length l.yielded) l.right))
+invariant-loop-a l = all_plain l.n l.left l.right ≡ (ltb l.faults (2 ^ 63) && all_plain l.n (drop (length l.yielded) l.left) (drop (length l.yielded) l.right))

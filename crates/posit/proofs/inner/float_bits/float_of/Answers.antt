@@ -30,19 +30,19 @@ overflow_add-result c = rw c.power.ensures (record { fits = omega (arith, size_f
 pub float_from_bits-result : goal.float_from_bits-result
 float_from_bits-result c =
     rw c.power.ensures
-    (number_bits _ (negative_made c.args.x.small c.highest_bit-h.ensures c.args.x.odd))
+    (number_bits _ (negative_made c.args.x.small c.highest_bit-h.ensures c.requires))
 
 pub returns-then-x : goal.returns-then-x
 returns-then-x c =
     rw (c.power.ensures, c.if-x.true)
-    (negative_made c.args.x.small c.highest_bit-h.ensures c.args.x.odd)
+    (negative_made c.args.x.small c.highest_bit-h.ensures c.requires)
 
 pub float_from_bits-result-2 : goal.float_from_bits-result-2
 float_from_bits-result-2 c =
     rw c.power.ensures
-    (number_bits _ (positive_made c.args.x.small c.highest_bit-h.ensures c.args.x.odd))
+    (number_bits _ (positive_made c.args.x.small c.highest_bit-h.ensures c.requires))
 
 pub returns : goal.returns
 returns c =
     rw (c.power.ensures, c.if-x.false)
-    (positive_made c.args.x.small c.highest_bit-h.ensures c.args.x.odd)
+    (positive_made c.args.x.small c.highest_bit-h.ensures c.requires)

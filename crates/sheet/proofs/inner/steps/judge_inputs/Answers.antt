@@ -14,13 +14,13 @@ use Rattle.sheet.proofs.inner.steps.judge_inputs.Goals.{In-loop-i}
 
 -- the verdict of all inputs is that of the next input and those behind it
 next_input : (c : In-loop-i) → let a = c.args in let i = c.loop-i.i in
-    first_hit (inputs_tests a.f.n 0 a.inputs.now) ≡ first_hit (word_tests a.f.n i (get_or a.inputs.now i 0) ++ inputs_tests a.f.n (i + 1) (drop (i + 1) a.inputs.now))
-next_input c = c.loop-i.invariant ∙ ap first_hit (inputs_next c.args.f.n c.loop-i.i c.args.inputs.now c.loop-i-test.true)
+    first_hit (inputs_tests a.n 0 a.inputs.now) ≡ first_hit (word_tests a.n i (get_or a.inputs.now i 0) ++ inputs_tests a.n (i + 1) (drop (i + 1) a.inputs.now))
+next_input c = c.loop-i.invariant ∙ ap first_hit (inputs_next c.args.n c.loop-i.i c.args.inputs.now c.loop-i-test.true)
 
 pub returns-in_err-judge_word : goal.returns-in_err-judge_word
 returns-in_err-judge_word c =
     let t = (goal.at.returns-in_err-judge_word c).In-loop-i in
-    let n = t.args.f.n in
+    let n = t.args.n in
     let i = t.loop-i.i in
     let w = get_or t.args.inputs.now i 0 in
     passes_on _ _ _ c.from_residual.ensures (next_input t ∙ refused_first (word_tests n i w) _ _ (word_verdict n i w c.in_err-judge_word.ensures))
@@ -28,7 +28,7 @@ returns-in_err-judge_word c =
 pub loop-i-preserved : goal.loop-i-preserved
 loop-i-preserved c =
     let t = (goal.at.loop-i-preserved c).In-loop-i in
-    next_input t ∙ passing_skips (word_passing t.args.f.n t.loop-i.i (get_or t.args.inputs.now t.loop-i.i 0) c.in_ok-judge_word.ensures.0) _
+    next_input t ∙ passing_skips (word_passing t.args.n t.loop-i.i (get_or t.args.inputs.now t.loop-i.i 0) c.in_ok-judge_word.ensures.0) _
 
 pub returns : goal.returns
-returns c = (c.loop-i.invariant ∙ ap first_hit (inputs_end c.args.f.n c.loop-i.i c.args.inputs.now c.loop-i-test.false) ∙ none_hits, tt)
+returns c = (c.loop-i.invariant ∙ ap first_hit (inputs_end c.args.n c.loop-i.i c.args.inputs.now c.loop-i-test.false) ∙ none_hits, tt)

@@ -5,4 +5,4 @@ use Rattle.sheet.specs.Sheet.{inputs_tests}
 use Rattle.sheet.proofs.inner.steps.judge_inputs.Given as goal
 
 abbrev pub invariant-loop-i : goal.invariant-loop-i
-invariant-loop-i l = first_hit (inputs_tests l.f.n 0 l.inputs) ≡ first_hit (inputs_tests l.f.n l.i (drop l.i l.inputs))
+invariant-loop-i l = first_hit (inputs_tests l.n 0 l.inputs) ≡ first_hit (inputs_tests l.n l.i (drop l.i l.inputs))

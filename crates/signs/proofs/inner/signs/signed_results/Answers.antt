@@ -11,4 +11,4 @@ either_sign-across-requires g c = (
 
 pub turned_cells-requires : goal.turned_cells-requires
 turned_cells-requires g c =
-    (rw c.either_sign-across.ensures (either_cells c.args.f.n c.args.f.wide_enough c.args.f.es g.S.Scaling.divides c.part_above-2.result c.part_above-above.result c.part_above-below.result))
+    (c.args.f.not_too_wide, rw c.either_sign-across.ensures (either_cells c.args.f.n c.args.f.wide_enough c.args.f.es g.S.Scaling.divides c.part_above-2.result c.part_above-above.result c.part_above-below.result))

@@ -14,22 +14,22 @@ named c = c.push_str.ensures.bytes
 numbered : (c : After-push_number) → c.push_number.new.page.bytes ≡ c.args.page.now.bytes ++ row_word ++ field (decimal c.args.row)
 numbered c = c.push_number.ensures ∙ ap (λ (l : List ℕ). l ++ field (decimal c.args.row)) (named (goal.at.After-push_number c).After-push_str)
 
-ended : (c : After-push_ends) → c.push_ends.new.page.bytes ≡ c.args.page.now.bytes ++ row_word ++ field (decimal c.args.row) ++ range_fields c.args.f.n c.args.word
-ended c = c.push_ends.ensures ∙ ap (λ (l : List ℕ). l ++ range_fields c.args.f.n c.args.word) (numbered (goal.at.After-push_ends c).After-push_number)
+ended : (c : After-push_ends) → c.push_ends.new.page.bytes ≡ c.args.page.now.bytes ++ row_word ++ field (decimal c.args.row) ++ range_fields c.args.n c.args.word
+ended c = c.push_ends.ensures ∙ ap (λ (l : List ℕ). l ++ range_fields c.args.n c.args.word) (numbered (goal.at.After-push_ends c).After-push_number)
 
 pub push_number-requires : goal.push_number-requires
 push_number-requires c =
-    omega (arith, c.requires.1, row_digits c.args.row c.requires.0, ap length (named (goal.at.push_number-requires c).After-push_str), length-append c.args.page.now.bytes row_word)
+    omega (arith, c.requires.2, row_digits c.args.row c.requires.1, ap length (named (goal.at.push_number-requires c).After-push_str), length-append c.args.page.now.bytes row_word)
 
 pub push_ends-requires : goal.push_ends-requires
 push_ends-requires c =
     let many = simp length-append at (ap length (numbered (goal.at.push_ends-requires c).After-push_number)) in
-    omega (arith, c.requires.1, row_digits c.args.row c.requires.0, many)
+    (c.requires.0, omega (arith, c.requires.2, row_digits c.args.row c.requires.1, many))
 
 pub push-requires : goal.push-requires
 push-requires c =
     let many = simp length-append at (ap length (ended (goal.at.push-requires c).After-push_ends)) in
-    (omega arith, omega (arith, c.requires.1, row_digits c.args.row c.requires.0, many, one_byte 10 (omega arith)))
+    (omega arith, omega (arith, c.requires.2, row_digits c.args.row c.requires.1, many, one_byte 10 (omega arith)))
 
 pub returns : goal.returns
 unfolding row_line
@@ -37,4 +37,4 @@ returns c =
     let a = c.args in
     c.push.ensures.ascii (omega arith)
     ∙ ap (λ (l : List ℕ). l ++ 10 ∷ []) (ended (goal.at.returns c).After-push_ends)
-    ∙ four_behind a.page.now.bytes row_word (field (decimal a.row)) (range_fields a.f.n a.word) (10 ∷ [])
+    ∙ four_behind a.page.now.bytes row_word (field (decimal a.row)) (range_fields a.n a.word) (10 ∷ [])

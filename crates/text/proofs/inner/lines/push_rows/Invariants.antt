@@ -4,4 +4,4 @@ use Rattle.text.specs.Text.{row_lines}
 use Rattle.text.proofs.inner.lines.push_rows.Given as goal
 
 abbrev pub invariant-loop-row : goal.invariant-loop-row
-invariant-loop-row l = l.page.bytes ≡ l.fn.page.bytes ++ row_lines l.f.n 0 (take l.row l.rows)
+invariant-loop-row l = l.page.bytes ≡ l.fn.page.bytes ++ row_lines l.n 0 (take l.row l.rows)

@@ -4,8 +4,8 @@ use Rattle.tiles.proofs.inner.plain.plain_fault.Goals as goal
 
 pub overflow_sub-end : goal.overflow_sub-end
 overflow_sub-end c =
-    mark_fits c.args.f.n c.args.w c.args.f.wide_enough c.args.f.not_too_wide c.ranges.w.fits c.power-all.ensures
+    mark_fits c.args.n c.args.w c.requires.0 c.requires.1 c.ranges.w.fits c.power-all.ensures
 
 pub returns : goal.returns
 returns c =
-    plain_judged c.args.f.n c.args.w c.args.f.wide_enough c.args.f.not_too_wide c.ranges.w.fits c.power-all.ensures
+    plain_judged c.args.n c.args.w c.requires.0 c.requires.1 c.ranges.w.fits c.power-all.ensures

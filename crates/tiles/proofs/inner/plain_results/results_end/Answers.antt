@@ -10,7 +10,8 @@ pub end_tile_from-requires : goal.end_tile_from-requires
 end_tile_from-requires g c =
     let n = c.args.f.n in
     let wide = c.args.f.wide_enough in
-    result_cell_above n c.args.f.es wide (end_posit_fits n wide c.requires.0) (start_posit_fits n wide c.requires.1 c.if-t-eq-OPEN_ZERO.false) g.S.Scaling.divides c.cell.ensures
+    let above = result_cell_above n c.args.f.es wide (end_posit_fits n wide c.requires.0) (start_posit_fits n wide c.requires.1 c.if-t-eq-OPEN_ZERO.false) g.S.Scaling.divides c.cell.ensures in
+    (wide, c.args.f.not_too_wide, above.0, above.1)
 
 pub returns : goal.returns
 returns g c =

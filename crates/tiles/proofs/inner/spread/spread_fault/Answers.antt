@@ -6,12 +6,12 @@ use Rattle.tiles.proofs.inner.spread.spread_fault.Goals as goal
 
 pub overflow_sub-end : goal.overflow_sub-end
 overflow_sub-end c =
-    mark_fits c.args.f.n c.args.w c.args.f.wide_enough c.args.f.not_too_wide c.ranges.w.fits c.power-all.ensures
+    mark_fits c.args.n c.args.w c.requires.0 c.requires.1 c.ranges.w.fits c.power-all.ensures
 
 pub overflow_sub-result : goal.overflow_sub-result
 overflow_sub-result c =
-    omega (arith, c.power-half.ensures, half_large c.args.f.wide_enough)
+    omega (arith, c.power-half.ensures, half_large c.requires.0)
 
 pub returns : goal.returns
 returns c =
-    spread_judged c.args.f.n c.args.w c.args.f.wide_enough c.args.f.not_too_wide c.ranges.w.fits c.power-all.ensures c.power-half.ensures
+    spread_judged c.args.n c.args.w c.requires.0 c.requires.1 c.ranges.w.fits c.power-all.ensures c.power-half.ensures

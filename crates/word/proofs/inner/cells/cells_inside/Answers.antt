@@ -5,10 +5,10 @@ use Rattle.word.proofs.Replies.{tells, inside_spans}
 use Rattle.word.proofs.inner.cells.cells_inside.Goals as goal
 
 pub returns-then-x : goal.returns-then-x
-returns-then-x c = tells (inside_spans _ _ c.args.f.wide_enough c.requires c.cells_of-x.ensures c.cells_of-y.ensures) (grind (arith, nat_tests))
+returns-then-x c = tells (inside_spans _ _ c.requires.0 (c.requires.2, c.requires.3) c.cells_of-x.ensures c.cells_of-y.ensures) (grind (arith, nat_tests))
 
 pub returns-then-y-x : goal.returns-then-y-x
-returns-then-y-x c = tells (inside_spans _ _ c.args.f.wide_enough c.requires c.cells_of-x.ensures c.cells_of-y.ensures) (grind (arith, nat_tests))
+returns-then-y-x c = tells (inside_spans _ _ c.requires.0 (c.requires.2, c.requires.3) c.cells_of-x.ensures c.cells_of-y.ensures) (grind (arith, nat_tests))
 
 pub returns-else-y-x : goal.returns-else-y-x
-returns-else-y-x c = tells (inside_spans _ _ c.args.f.wide_enough c.requires c.cells_of-x.ensures c.cells_of-y.ensures) (grind (arith, nat_tests))
+returns-else-y-x c = tells (inside_spans _ _ c.requires.0 (c.requires.2, c.requires.3) c.cells_of-x.ensures c.cells_of-y.ensures) (grind (arith, nat_tests))

@@ -5,7 +5,7 @@ use Rattle.word.proofs.Replies.{tells, meets_spans}
 use Rattle.word.proofs.inner.cells.cells_meet.Goals as goal
 
 pub returns-then-x-y : goal.returns-then-x-y
-returns-then-x-y c = tells (meets_spans _ _ c.args.f.wide_enough c.requires c.cells_of-x.ensures c.cells_of-y.ensures) (grind (arith, nat_tests))
+returns-then-x-y c = tells (meets_spans _ _ c.requires.0 (c.requires.2, c.requires.3) c.cells_of-x.ensures c.cells_of-y.ensures) (grind (arith, nat_tests))
 
 pub returns-else-x-y : goal.returns-else-x-y
-returns-else-x-y c = tells (meets_spans _ _ c.args.f.wide_enough c.requires c.cells_of-x.ensures c.cells_of-y.ensures) (grind (arith, nat_tests))
+returns-else-x-y c = tells (meets_spans _ _ c.requires.0 (c.requires.2, c.requires.3) c.cells_of-x.ensures c.cells_of-y.ensures) (grind (arith, nat_tests))
