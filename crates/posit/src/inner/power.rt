@@ -32,5 +32,5 @@ pub fn negated(n: u32, p: u32) -> u32
     requires { (n < 32) × (p < 2 ^ n) }
     ensures { result ≡ Spec.negated n p }
 {
-    p.wrapping_neg() % power32(n)
+    0u32.wrapping_sub(p) % power32(n)
 }
