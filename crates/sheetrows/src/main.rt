@@ -1,11 +1,9 @@
 // The program: reads a sheet file on standard input, and prints its rows or its refusal; what it could not read or write it says on standard error.
 #![tactic(auto)]
 
-ghost use Rattle.std.specs.Prelude.{◌≡◌};
+ghost use Rattle.std.specs.Prelude.{◌≡◌, ◌≤◌, length};
 ghost use Rattle.text.specs.FileText.{text_of_file};
 
-use arrayvec::ArrayVec;
-use std::io;
 use std::io::Read;
 use text::file_text::{TEXT_BYTES, sheet_text};
 
@@ -26,20 +24,30 @@ fn print(rt: &HostRuntime, file: &[u8], text: &[u8])
 // One byte more than the longest sheet file, 9 + 32 * 8 + 64 * 3; a longer file has the text of these bytes (`long_text`, in `text`).
 const ENOUGH: usize = 458;
 
-// Reads until there is enough, the input ends or a read fails, which it says.
-fn read_file(rt: &HostRuntime) -> ArrayVec<u8, ENOUGH> {
-    let mut input = rt.stdin().take(ENOUGH as u64);
-    let mut file = ArrayVec::new();
-    if io::copy(&mut input, &mut file).is_err() {
-        say(rt, "sheetrows: standard input could not be read");
+// Reads until the bytes are full, the input ends or a read fails, which it says, and answers how many bytes arrived. Not by `io::copy`,
+// which tries an interrupted read again and takes 8 KiB of stack.
+fn read_file(rt: &HostRuntime, file: &mut [u8; ENOUGH]) -> usize
+    ensures { result ≤ length file.new }
+{
+    let mut input = rt.stdin();
+    let mut arrived: usize = 0;
+    while arrived < ENOUGH {
+        match input.read(&mut file[arrived..]) {
+            Ok(0) => return arrived,
+            Ok(more) => arrived += more,
+            Err(_) => {
+                say(rt, "sheetrows: standard input could not be read");
+                return arrived;
+            }
+        }
     }
-    file
+    arrived
 }
 
 fn main(rt: HostRuntime) {
-    let arrived = read_file(&rt);
-    let file = arrived.as_slice();
+    let mut file = [0u8; ENOUGH];
+    let arrived = read_file(&rt, &mut file);
     let mut text = [0u8; TEXT_BYTES];
-    let count = sheet_text(file, &mut text);
-    print(&rt, file, &text[..count]);
+    let count = sheet_text(&file[..arrived], &mut text);
+    print(&rt, &file[..arrived], &text[..count]);
 }
