@@ -18,6 +18,6 @@ pub fn work_file(file: &[u8], lent: &mut [u64]) -> Result<u32, Refusal>
     let es = u32::from(file[ES_AT]);
     let count = usize::from(file[INPUTS_AT]);
     let (inputs, steps) = file[HEAD_BYTES..].split_at(WORD_BYTES * count);
-    let words = read_words(inputs);
-    work(n, es, &words, steps, lent)
+    let words = read_words(count, inputs);
+    work(n, es, &words[..count], steps, lent)
 }

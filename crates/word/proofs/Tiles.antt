@@ -83,6 +83,24 @@ end_cell_is n w t u d {b} {half} turned is_half = go (ℕ_discrete t (open_nar n
         last_finite b half (omega arith) (rw came (mod-lt (t + half) (omega (arith, half_large w))))
         ∙ rw (ne_eqb t (open_nar n) o) (omega arith)
 
+-- ---- a closed NaR, and no other tile, comes to 0
+module _ {n : ℕ} (wide : 3 ≤ n) (t : ℕ) (there : t < tiles n) {b : ℕ} (came : b ≡ (t + 2 ^ n) % tiles n) where
+  twice : tiles n ≡ 2 * 2 ^ n
+  twice = omega (arith, power_wider n)
+
+  turned : b ≡ (t + 2 ^ n) % (2 * 2 ^ n)
+  turned = came ∙ ap (λ (m : ℕ). (t + 2 ^ n) % m) twice
+
+  pub closed_from_zero : b ≡ 0 → t ≡ closed_nar n
+  closed_from_zero e = go (dec_lt t (2 ^ n))
+    where
+      go : Dec (t < 2 ^ n) → t ≡ closed_nar n
+      go (yes l) = absurd (omega (arith, turn_low t (2 ^ n) l, turned, e, pow_pos n))
+      go (no l) = omega (arith, turn_high t (2 ^ n) (omega (arith, l)) (omega (arith, twice)), turned, e, closed_half wide)
+
+  pub closed_to_zero : t ≡ closed_nar n → b ≡ 0
+  closed_to_zero e = omega (arith, turn_high t (2 ^ n) (omega (arith, e, closed_half wide)) (omega (arith, twice)), turned, e, closed_half wide)
+
 -- ---- the end tile of a cell, where the topmost comes out as an open NaR by itself
 module _ (n : ℕ) {half : ℕ} (is_half : half ≡ 2 ^ n) where
   pub end_tile_is : 3 ≤ n → (c : ℕ) → (c + 3 - 2 * (c % 2) + half) % (2 * half) ≡ end_tile_at n c

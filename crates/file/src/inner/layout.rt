@@ -1,9 +1,8 @@
 // The layout of a sheet file: its own tests, and its words.
-ghost use Rattle.std.specs.Prelude.{◌≡◌, ◌/◌, ◌≤◌, length};
+ghost use Rattle.std.specs.Prelude.{◌≡◌, ◌*◌, ◌≤◌, length, take};
 ghost use Rattle.call.specs.Verdict.{first_hit, Says};
 ghost use Rattle.file.specs.File.{words_of, file_tests};
 
-use arrayvec::ArrayVec;
 use call::place::LEFT;
 use call::reason::Reason;
 use call::refusal::Refusal;
@@ -58,15 +57,15 @@ pub fn judge_file(file: &[u8]) -> Result<(), Refusal>
     Ok(())
 }
 
-// The words of some bytes, eight bytes each, low byte first.
-pub fn read_words(bytes: &[u8]) -> ArrayVec<u64, MOST_INPUTS>
-    requires { length bytes.now ≤ 256 }
-    ensures { result.items ≡ words_of (length bytes.now / 8) bytes.now }
+// The first so many words of some bytes, eight bytes each, low byte first. By number into an array: pushed onto an `ArrayVec` they took a third longer.
+pub fn read_words(count: usize, bytes: &[u8]) -> [u64; MOST_INPUTS]
+    requires { (count ≤ 32) × (8 * count ≤ length bytes.now) }
+    ensures { (length result ≡ 32) × (take count result ≡ words_of count bytes.now) }
 {
     let (eights, _) = bytes.as_chunks::<WORD_BYTES>();
-    let mut words = ArrayVec::new();
-    for eight in eights {
-        words.push(u64::from_le_bytes(*eight));
+    let mut words = [0u64; MOST_INPUTS];
+    for i in 0..count {
+        words[i] = u64::from_le_bytes(eights[i]);
     }
     words
 }

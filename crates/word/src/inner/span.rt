@@ -33,7 +33,7 @@ pub fn no_cells(n: u32) -> Span
 
 // Half a turn of their circle puts the tiles in the order of their posits: the closed NaR comes to 0 and the open one to 1. Another half
 // turn puts them back.
-fn half_turn(f: Format, tile: u32) -> u32
+pub fn half_turn(f: Format, tile: u32) -> u32
     requires { tile ≤ tiles f.n + 1 }
     ensures { result ≡ (tile + 2 ^ f.n) % tiles f.n }
 {

@@ -5,10 +5,10 @@ ghost use Rattle.word.specs.Member.{Real};
 ghost use Rattle.word.specs.Spans.{cells_of};
 ghost use Rattle.word.specs.Taking.{TakesWord};
 
-use super::span::{Span, end_cell, no_cells, start_cell};
+use super::span::{Span, end_cell, half_turn, no_cells, start_cell};
 use call::reason::Reason;
 use posit::inner::format::Format;
-use posit::inner::power::{power, power32};
+use posit::inner::power::power;
 
 pub fn start_tile(f: Format, w: u64) -> u32
     requires { w < words f.n }
@@ -36,8 +36,8 @@ pub fn take_word(n: u32, w: u64) -> Result<Span, Reason>
     }
     let start = start_tile(f, w);
     let end = end_tile(f, w);
-    let closed_nar = power32(n);
-    if start == closed_nar || end == closed_nar {
+    // a closed NaR comes to 0 by half a turn, which the cells take too
+    if half_turn(f, start) == 0 || half_turn(f, end) == 0 {
         return Err(Reason::HoldsInfinity);
     }
     let lo = start_cell(f, start);

@@ -1,6 +1,6 @@
 -- `file::file::work_file` meets its contract: the file's own tests come first, and what it holds is then worked as a sheet.
-use Rattle.std.proofs.Common.{◌≡◌, ℕ, ◌+◌, ◌*◌, ◌/◌, ap, ◌∙◌, length, take, drop, length-take, length-drop, arith}
-use Rattle.std.proofs.Math.Seq.{drop-drop}
+use Rattle.std.proofs.Common.{◌≡◌, ℕ, ◌+◌, ◌*◌, sym, ap, ◌∙◌, length, take, drop, length-take, length-drop, arith}
+use Rattle.std.proofs.Math.Seq.{drop-drop, length-take-le}
 use Rattle.file.specs.File.{words_of, inputs_part, steps_part, file_tests, verdict_of_file}
 use Rattle.file.specs.Accepted.{FileFits}
 use Rattle.call.proofs.Tests.{Passing, passing_of}
@@ -48,16 +48,24 @@ split_at-requires c =
 pub read_words-words-requires : goal.read_words-words-requires
 read_words-words-requires c =
     let f = fit (goal.at.read_words-words-requires c).In_ok-judge_file in
-    omega (arith, c.split_at.ensures.front_len, f.few_inputs, c.from-count.ensures)
+    (omega (arith, f.few_inputs, c.from-count.ensures), omega (arith, c.split_at.ensures.front_len))
+
+pub slice_bounds-words-end : goal.slice_bounds-words-end
+slice_bounds-words-end c =
+    let f = fit (goal.at.slice_bounds-words-end c).In_ok-judge_file in
+    omega (arith, f.few_inputs, c.from-count.ensures, c.read_words-words.ensures.0)
+
+pub slice_bounds-work-end : goal.slice_bounds-work-end
+slice_bounds-work-end c =
+    let f = fit (goal.at.slice_bounds-work-end c).In_ok-judge_file in
+    sym (length-take-le c.from-count.result c.read_words-words.result (omega (arith, f.few_inputs, c.from-count.ensures, c.read_words-words.ensures.0)))
 
 -- ---- the two parts behind the head
-inputs_are : (c : After-read_words-words) → c.read_words-words.result.items ≡ inputs_part c.args.file.now
+inputs_are : (c : After-read_words-words) → take c.from-count.result c.read_words-words.result ≡ inputs_part c.args.file.now
 inputs_are c =
     let file = c.args.file.now in
     let count = c.from-count.result in
-    let eights : length c.split_at.result.0.now / 8 ≡ count = omega (arith, c.split_at.ensures.front_len) in
-    c.read_words-words.ensures
-    ∙ ap (λ (k : ℕ). words_of k c.split_at.result.0.now) eights
+    c.read_words-words.ensures.1
     ∙ ap (words_of count) (c.split_at.ensures.front ∙ ap (take (8 * count)) (all_behind 9 file))
     ∙ words_front count (drop 9 file)
     ∙ ap (λ (k : ℕ). words_of k (drop 9 file)) c.from-count.ensures
@@ -73,5 +81,5 @@ steps_are c =
 pub returns : goal.returns
 returns c =
     let t = (goal.at.returns c).After-read_words-words in
-    writes_file c.args.file.now _ _ _ _ _ (passed (goal.at.returns c).In_ok-judge_file) (c.deref.ensures.0 ∙ inputs_are t) (steps_are t)
+    writes_file c.args.file.now _ _ _ _ _ (passed (goal.at.returns c).In_ok-judge_file) (inputs_are t) (steps_are t)
     (rw (c.from-n.ensures, c.from-es.ensures) at c.work.ensures)
