@@ -2,7 +2,6 @@
 ghost use Rattle.std.specs.Prelude.{◌≡◌, ◌^◌, ◌≤◌, nat_lt};
 ghost use Rattle.tiles.specs.Plain.{is_plain};
 
-use posit::inner::format::Format;
 use posit::inner::power::power;
 
 // The tile of an open 0, at which a plain range may start.

@@ -1,5 +1,5 @@
 -- `text::file_text::push_file` meets its contract: what working the file comes to decides between the refusal's line and the rows' lines.
-use Rattle.std.proofs.Common.{◌≡◌, ◌≤◌, ℕ, List, ◌++◌, sym, ap, subst, ◌∙◌, length, take, arith}
+use Rattle.std.proofs.Common.{◌≡◌, ℕ, List, ◌++◌, sym, ap, ◌∙◌, length, take, arith}
 use Rattle.call.specs.Verdict.{Verdict, refused}
 use Rattle.call.proofs.Answered.{refuses}
 use Rattle.file.specs.Accepted.{FileFits}
